@@ -1,0 +1,3 @@
+pub mod Open
+pub mod Facts
+pub mod Room

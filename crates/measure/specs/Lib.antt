@@ -1,0 +1,3 @@
+pub mod Measure
+pub mod Marks
+pub mod Page

@@ -1,0 +1,4 @@
+pub mod Summing
+pub mod Removing
+pub mod Flipping
+pub mod Printout

@@ -1,0 +1,101 @@
+-- Document 01, "Numbered answers" of a removal: from all inputs to its answer, every byte of the output, page row and ring.
+use Prim.Native.Nat.{ℕ, zero, suc, _-_}
+use mathlib.Core.Bool.{Bool, not, _||_}
+use mathlib.Core.List.{List, [], _∷_, _++_, map}
+use mathlib.Core.Option.{Option·getD}
+use mathlib.Core.Path.{_≡_}
+use lib.Dec.{ltb}
+use Rattle.lists.specs.Lists.{every, any}
+use Rattle.measure.specs.declared.Quality.{Quality}
+use Rattle.measure.specs.Measure.{sameZ, worst, worse, zeroQuality}
+use Rattle.measure.specs.Page.{shown, pageRow}
+use Rattle.mesh.specs.Mesh.{rowQuality, totalD}
+use Rattle.block.specs.Layout.{Patch, maxRows, fieldsOf, bytesOf}
+use Rattle.block.specs.Answers.{Tests, firstRefusal, notBlock, sumWrong, bodyTests, openAnswer, written}
+use Rattle.ring.specs.Ring.{Site, siteOf, m, edgeTests, lengthWrong, ringWith}
+use Rattle.pieces.specs.Triangulation.{ways, tableAfter, rowsAfter}
+use Rattle.pieces.specs.Admissible.{admissible}
+use Rattle.pieces.specs.Best.{worstOfWay, ringWays, chosen}
+use Rattle.patch.specs.declared.Removal.{Removal}
+use Rattle.patch.specs.declared.Removal.the-variants.{Done, Refused}
+use Rattle.patch.specs.declared.Removed.{Removed}
+use Rattle.patch.specs.Summing.{qualities}
+
+-- ---- what each answer is given for
+
+-- answers 1 to 8 of a call with a block and an output block: both lengths before anything in the block
+unfoldable pub blockTests : List ℕ → List ℕ → Tests
+blockTests block out = (1, notBlock block || notBlock out) ∷ (2, sumWrong block) ∷ bodyTests block
+
+-- the worst tetrahedron round the edge now
+unfoldable pub worstNow : Site → Quality
+worstNow site = Option·getD (worst (map (rowQuality (site .points)) (site .removed))) zeroQuality
+
+-- 14: rows afterwards would be over 60
+abbrev pub noRoom : Site → Bool
+noRoom site = ltb maxRows (rowsAfter site)
+
+-- 15: no admissible triangulation
+unfoldable pub noWay : Site → Bool
+noWay site = not (any (admissible site) (ways (m site - 1)))
+
+-- 16: none better: each such way makes a tetrahedron no better than the worst one round the edge now
+unfoldable pub noneBetter : Site → Bool
+noneBetter site = every (λ t. not (worse (worstNow site) (worstOfWay site 1 t))) (ringWays site)
+
+-- the patch afterwards: points stay; the kept rows in order, then the new rows
+unfoldable pub patchAfter : Site → Patch
+patchAfter site = record { points = site .points; rows = tableAfter site (chosen site) }
+
+-- 17: total D before and after differ
+unfoldable pub totalDiffers : Patch → Patch → Bool
+totalDiffers before after = not (sameZ (totalD (before .points) (before .rows)) (totalD (after .points) (after .rows)))
+
+-- answers 13 to 17 of a removal
+unfoldable pub removalTests : Patch → Site → Tests
+removalTests patch site =
+    (13, lengthWrong site)
+    ∷ (14, noRoom site)
+    ∷ (15, noWay site)
+    ∷ (16, noneBetter site)
+    ∷ (17, totalDiffers patch (patchAfter site)) ∷ []
+
+-- ---- the removal of edge e f
+
+-- numbered answers, tested from the top
+unfoldable pub removeAnswer : List ℕ → List ℕ → ℕ → ℕ → ℕ
+removeAnswer block out e f =
+    let patch = fieldsOf block in
+    let site = siteOf patch e f in
+    firstRefusal (blockTests block out ++ edgeTests site e f ++ removalTests patch site)
+
+-- each byte of the output block afterwards
+unfoldable pub removeBytes : List ℕ → List ℕ → ℕ → ℕ → List ℕ
+removeBytes block out e f = written (removeAnswer block out e f) (bytesOf (patchAfter (siteOf (fieldsOf block) e f))) out
+
+-- worst is taken over all rows of the patch
+abbrev pub worstOfPatch : Patch → Quality
+worstOfPatch patch = Option·getD (worst (qualities patch)) zeroQuality
+
+-- there is a page row only with answer 0 of a removal; the ring stands beside it
+unfoldable pub removeGives : List ℕ → List ℕ → ℕ → ℕ → Removed
+removeGives block out e f =
+    let patch = fieldsOf block in
+    let site = siteOf patch e f in
+    let page = pageRow (shown (worstOfPatch patch)) (shown (worstOfPatch (patchAfter site))) in
+    elim (removeAnswer block out e f) [
+      | zero ↦ record { removal = Done page; ring = ringWith (site .ring) }
+      | suc n ↦ record { removal = Refused (suc n); ring = ringWith [] }
+    ]
+
+-- the number of each case
+abbrev pub removalNumber : Removal → ℕ
+removalNumber (Done page) = 0
+removalNumber (Refused n) = n
+
+-- ---- a premise of most laws
+
+-- The block opens and answers 9 to 12 are not given, so the links make one closed ring.
+pub record Sound (block : List ℕ) (e f : ℕ) : Type 0 where
+  pub opens : openAnswer block ≡ 0
+  pub closed : firstRefusal (edgeTests (siteOf (fieldsOf block) e f) e f) ≡ 0

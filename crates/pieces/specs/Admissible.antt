@@ -1,0 +1,35 @@
+-- Document 01, "Ring and replacement": when a triangulation is admissible, of the ring and of a piece.
+use Prim.Native.Nat.{ℕ}
+use mathlib.Core.Bool.{Bool, not, _&&_}
+use mathlib.Core.List.{List, [], _∷_, map, flatMap}
+use lib.ListN.{length}
+use Rattle.lists.specs.Lists.{any}
+use Rattle.mesh.specs.Mesh.{Face, usesEitherWay, keepsMeshRule}
+use Rattle.ring.specs.Ring.{Site}
+use Rattle.pieces.specs.Triangulation.{Tri, Triangle, triangles, diagonals, v, tableAfter}
+
+-- a triangulation of the ring is admissible if the whole table afterwards keeps the mesh rule
+unfoldable pub admissible : Site → Tri → Bool
+admissible site t = keepsMeshRule (length (site .points)) (tableAfter site t)
+
+-- a kept row uses the face, either way round
+abbrev pub keptUses : Site → Face → Bool
+keptUses site f = any (usesEitherWay f) (site .kept)
+
+-- a new triangle
+abbrev pub triangleFace : Site → Triangle → Face
+triangleFace site t = (v site (t .0), v site (t .1), v site (t .2))
+
+-- the faces of a and b with a diagonal
+abbrev pub diagonalFaces : Site → ℕ × ℕ → List Face
+diagonalFaces site d =
+    let vi = v site (d .0) in
+    let vj = v site (d .1) in
+    (site .a, vi, vj) ∷ (site .b, vi, vj) ∷ []
+
+-- a triangulation of a piece from vi on is admissible if no kept row uses one of its triangles,
+-- or a face of a or b with a diagonal inside the piece
+unfoldable pub pieceAdmissible : Site → ℕ → Tri → Bool
+pieceAdmissible site i t =
+    not (any (keptUses site) (map (triangleFace site) (triangles i t)))
+    && not (any (keptUses site) (flatMap (diagonalFaces site) (diagonals i t)))

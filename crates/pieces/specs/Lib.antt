@@ -1,0 +1,3 @@
+pub mod Triangulation
+pub mod Admissible
+pub mod Best

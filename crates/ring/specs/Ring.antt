@@ -1,0 +1,137 @@
+-- Document 01, "Ring and replacement" as far as the ring, and answers 9 to 13.
+use Prim.Native.Nat.{ℕ, zero, suc, min, max}
+use mathlib.Core.Bool.{Bool, true, false, cond, not, _&&_, _||_}
+use mathlib.Core.List.{List, [], _∷_, map, foldr}
+use mathlib.Core.Option.{Option, none, some, Option·getD}
+use lib.Dec.{eqb, ltb}
+use lib.ListN.{length}
+use Rattle.lists.specs.Lists.{every, those, has, different}
+use Rattle.measure.specs.declared.Point.{Point}
+use Rattle.mesh.specs.declared.Row.{Row}
+use Rattle.mesh.specs.Mesh.{holds}
+use Rattle.mesh.specs.Tetrahedra.{arrangedFrom}
+use Rattle.block.specs.Layout.{Patch, filled}
+use Rattle.block.specs.Answers.{Tests}
+use Rattle.ring.specs.declared.Ring.{Ring}
+
+-- ---- links and circles
+
+-- A link v to w.
+abbrev pub Link : Type 0
+Link = ℕ × ℕ
+
+-- the row holds both ends
+abbrev pub holdsEdge : ℕ → ℕ → Row → Bool
+holdsEdge a b row = holds row a && holds row b
+
+-- each row holding both is rearranged evenly as (a,b,v,w) and gives a link v to w
+unfoldable pub link : ℕ → ℕ → Row → Link
+link a b row = let t = arrangedFrom a b row in (t .r, t .s)
+
+-- where the link from v goes to, if there is one
+unfoldable pub next : List Link → ℕ → Option ℕ
+next [] v = none
+next (l ∷ ls) v = let rest = next ls v in cond (eqb (l .0) v) (some (l .1)) rest
+
+-- the walk round the edge, at most so many steps of it: it ends at the first missing link, with nothing,
+-- or when it is back at its start, with the points of a closed circle
+unfoldable pub walk : ℕ → List Link → ℕ → ℕ → Option (List ℕ)
+walk zero links start here = none
+walk (suc steps) links start here = elim (next links here) [
+  | none ↦ none
+  | some there ↦ elim (eqb there start) [
+    | true ↦ some (here ∷ [])
+    | false ↦ elim (walk steps links start there) [ none ↦ none | some others ↦ some (here ∷ others) ]
+  ]
+]
+
+-- the closed circle from v, if there is one; it has no more points than there are links
+abbrev pub circle : List Link → ℕ → Option (List ℕ)
+circle links v = walk (length links) links v v
+
+-- the walk from v closes
+abbrev pub closes : List Link → ℕ → Bool
+closes links v = elim (circle links v) [ none ↦ false | some points ↦ true ]
+
+-- the points from which links go
+abbrev pub starts : List Link → List ℕ
+starts links = map (λ l. l .0) links
+
+-- the smallest of some numbers
+unfoldable pub smallest : List ℕ → ℕ
+smallest [] = 0
+smallest (n ∷ ns) = foldr min n ns
+
+-- the ring starts at its smallest point number, v1, and follows the links to vm
+unfoldable pub ringOf : List Link → List ℕ
+ringOf links = Option·getD (circle links (smallest (starts links))) []
+
+-- ---- the edge in its patch
+
+-- The ends in order, a < b; the rows that go and the rows kept, each in order; the links; the ring v1..vm.
+pub record Site : Type 0 where
+  pub points : List Point
+  pub a : ℕ
+  pub b : ℕ
+  pub removed : List Row
+  pub kept : List Row
+  pub links : List Link
+  pub ring : List ℕ
+
+-- the edge's two ends are put in order, a < b; either order given has the same answer
+unfoldable pub siteOf : Patch → ℕ → ℕ → Site
+siteOf patch e f =
+    let a = min e f in
+    let b = max e f in
+    let removed = those (holdsEdge a b) (patch .rows) in
+    let kept = those (λ row. not (holdsEdge a b row)) (patch .rows) in
+    let links = map (link a b) removed in
+    record { points = patch .points; a = a; b = b; removed = removed; kept = kept; links = links; ring = ringOf links }
+
+-- m is the length of the ring
+abbrev pub m : Site → ℕ
+m site = length (site .ring)
+
+-- ---- answers 9 to 13: what each is given for
+
+-- the smallest m
+abbrev pub minRing : ℕ
+minRing = 3
+
+-- the largest m
+abbrev pub maxRing : ℕ
+maxRing = 10
+
+-- 9: edge or face number not below the point count, or equal to another
+unfoldable pub numbersWrong : ℕ → List ℕ → Bool
+numbersWrong count ns = not (every (λ n. ltb n count) ns && different ns)
+
+-- 10: no row holds the edge
+abbrev pub edgeMissing : Site → Bool
+edgeMissing site = eqb (length (site .removed)) 0
+
+-- 11: the links do not all close
+unfoldable pub linkOpen : Site → Bool
+linkOpen site = not (every (closes (site .links)) (starts (site .links)))
+
+-- 12: more than one closed circle, so some link is not on the ring
+unfoldable pub manyCircles : Site → Bool
+manyCircles site = not (every (has (site .ring)) (starts (site .links)))
+
+-- 13: m below 3 or over 10
+abbrev pub lengthWrong : Site → Bool
+lengthWrong site = ltb (m site) minRing || ltb maxRing (m site)
+
+-- 9 to 12, which every call on an edge shares
+unfoldable pub edgeTests : Site → ℕ → ℕ → Tests
+edgeTests site e f =
+    (9, numbersWrong (length (site .points)) (e ∷ f ∷ []))
+    ∷ (10, edgeMissing site)
+    ∷ (11, linkOpen site)
+    ∷ (12, manyCircles site) ∷ []
+
+-- ---- the ring as a type
+
+-- the ring of some points, of which there are at most 10
+abbrev pub ringWith : List ℕ → Ring
+ringWith points = record { m = length points; v = filled maxRing points }
