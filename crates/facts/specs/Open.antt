@@ -2,6 +2,7 @@
 use mathlib.Core.List.{flatMap}
 use lib.Ieee.{toBits, div, ofInt, neg}
 use Rattle.lists.specs.Lists.{every, any, those, first, same, different, numbersFrom, largest}
+use Rattle.exact.specs.Fractions.{roundedUp}
 use Rattle.measure.specs.Measure.{pointIn, pointsIn, determinant, D, squaredLength, S, qualityOf, quality, worse, worst, best}
 use Rattle.measure.specs.Marks.{scoreOf, worstScore, badness, totalBadness, octaveOf, octave}
 use Rattle.measure.specs.Page.{quotient, shown, pageRow}
@@ -26,7 +27,7 @@ unfolding
     flatMap toBits div ofInt neg
     every any those first same different numbersFrom largest
     pointIn pointsIn determinant D squaredLength S qualityOf quality worse worst best
-    scoreOf worstScore badness totalBadness octaveOf octave
+    roundedUp scoreOf worstScore badness totalBadness octaveOf octave
     quotient shown pageRow
     rowIn rowsIn faces sameFace uses numbersFit facesApart keepsMeshRule rowD rowS rowQuality totalD
     evenly arrangedFrom

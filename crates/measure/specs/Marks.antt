@@ -1,10 +1,11 @@
 -- Document 01, "Score and badness": score, badness, octave and their marks.
-use Prim.Native.Nat.{ℕ, _+_, _-_, _*_, _/_, _^_}
+use Prim.Native.Nat.{ℕ, _*_, _^_}
 use mathlib.Core.Bool.{cond}
 use mathlib.Core.List.{List, map}
 use mathlib.Core.Option.{none, some}
 use lib.Dec.{leb, eqb}
 use Rattle.lists.specs.Lists.{count, sum, largest}
+use Rattle.exact.specs.Fractions.{roundedUp}
 use Rattle.measure.specs.declared.Quality.{Quality}
 use Rattle.measure.specs.declared.Score.{Score}
 use Rattle.measure.specs.declared.Badness.{Badness}
@@ -42,10 +43,6 @@ unfoldable pub worstScore : List Quality → WorstScore
 worstScore qs = elim (worst qs) [ none ↦ NoRows | some q ↦ Worst (score q) ]
 
 -- ---- badness
-
--- n / d rounded up
-abbrev pub roundedUp : ℕ → ℕ → ℕ
-roundedUp n d = (n + d - 1) / d
 
 -- badness, for D > 0 only: S³/(432·D²) rounded up
 unfoldable pub badness : Quality → Badness

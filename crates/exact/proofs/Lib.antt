@@ -1,0 +1,5 @@
+pub mod Compared
+pub mod Steps
+pub mod Cross
+pub mod Laws
+pub mod Rounded
