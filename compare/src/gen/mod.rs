@@ -1,0 +1,76 @@
+//! Seeded cases: one call each, with all its inputs.
+
+mod bad_blocks;
+mod close;
+mod edges;
+mod faces;
+mod lattice;
+mod obstacles;
+mod random;
+mod rings;
+mod scene;
+mod shapes;
+mod summaries;
+mod templates;
+
+use crate::model::Call;
+pub use random::Random;
+
+/// A call, and the answer it was built to get where the builder knows it.
+#[derive(Clone, Debug)]
+pub struct Case {
+    pub family: &'static str,
+    pub call: Call,
+    pub meant: Option<u32>,
+}
+
+type Family = (&'static str, usize, fn(&mut Random) -> (Call, Option<u32>));
+
+/// The families of cases and how many in a hundred each gets.
+const FAMILIES: [Family; 18] = [
+    ("rings", 25, rings::ring),
+    ("full tables", 9, rings::full_table),
+    ("three", 3, rings::three),
+    ("rounding", 3, close::close),
+    ("equal fractions", 2, close::equal),
+    ("chains and circles", 7, edges::open_or_many),
+    ("ring lengths", 4, edges::short_or_long),
+    ("ends", 4, edges::bad_ends),
+    ("edges not held", 2, edges::not_held),
+    ("faces", 10, faces::face),
+    ("lattice", 5, lattice::lattice),
+    ("summaries", 4, summaries::summary),
+    ("sealing", 3, summaries::sealing),
+    ("one fault", 8, bad_blocks::one_fault),
+    ("several faults", 4, bad_blocks::several_faults),
+    ("faulty fields", 3, bad_blocks::faulty_fields),
+    ("lengths", 3, bad_blocks::lengths),
+    ("raw bytes", 1, bad_blocks::raw),
+];
+
+/// Case number `index` of a seed.
+pub fn case(seed: u64, index: u64) -> Case {
+    let mut random = Random::of_case(seed, index);
+    let (family, _, make) = drawn(random.below(100));
+    let (call, meant) = make(&mut random);
+    Case {
+        family,
+        call,
+        meant,
+    }
+}
+
+fn drawn(mut number: usize) -> Family {
+    for family in FAMILIES {
+        match number.checked_sub(family.1) {
+            Some(rest) => number = rest,
+            None => return family,
+        }
+    }
+    unreachable!("the shares make a hundred")
+}
+
+/// The first `count` cases of a seed.
+pub fn cases(seed: u64, count: u64) -> impl Iterator<Item = Case> {
+    (0..count).map(move |index| case(seed, index))
+}

@@ -1,0 +1,165 @@
+//! Places for an edge and its ring: a, b, then v1 to vm.
+
+use super::random::Random;
+use super::scene::any_point;
+use crate::model::limits::MAX_COORDINATE;
+use crate::model::Point;
+
+/// The middle of the box, on each axis.
+const MIDDLE: u8 = MAX_COORDINATE / 2;
+
+/// A thousand times cosine and sine of each twentieth of a circle.
+const CIRCLE: [(i64, i64); 20] = [
+    (1000, 0),
+    (951, 309),
+    (809, 588),
+    (588, 809),
+    (309, 951),
+    (0, 1000),
+    (-309, 951),
+    (-588, 809),
+    (-809, 588),
+    (-951, 309),
+    (-1000, 0),
+    (-951, -309),
+    (-809, -588),
+    (-588, -809),
+    (-309, -951),
+    (0, -1000),
+    (309, -951),
+    (588, -809),
+    (809, -588),
+    (951, -309),
+];
+
+/// The kinds of places.
+#[derive(Clone, Copy, Debug, PartialEq, Eq)]
+pub enum Shape {
+    /// A ring round the middle of the edge: rows round the edge are good.
+    Wheel,
+    /// The edge near the ring or outside it: some rows round it are thin or inverted.
+    Leaning,
+    /// The edge crosses a side of the ring: a flat row among upright ones.
+    OnSide,
+    /// Mirrored in a plane through the edge: exact ties.
+    Mirrored,
+    /// Ring and one end in one plane: flat rows, ties at zero.
+    Level,
+    /// Few places, so points coincide and fractions repeat.
+    Crowded,
+    /// Anywhere.
+    Anywhere,
+}
+
+pub const SHAPES: [Shape; 7] = [
+    Shape::Wheel,
+    Shape::Leaning,
+    Shape::OnSide,
+    Shape::Mirrored,
+    Shape::Level,
+    Shape::Crowded,
+    Shape::Anywhere,
+];
+
+pub fn places(random: &mut Random, shape: Shape, m: usize) -> Vec<Point> {
+    match shape {
+        Shape::Wheel => wheel(random, m, 10),
+        Shape::Leaning => wheel(random, m, 130),
+        Shape::OnSide => on_side(random, m),
+        Shape::Mirrored => mirrored(random, m),
+        Shape::Level => level(random, m),
+        Shape::Crowded => crowded(random, m),
+        Shape::Anywhere => (0..m + 2).map(|_| any_point(random)).collect(),
+    }
+}
+
+/// A ring of radius r in space, the edge at most `lean` percent of r away from its middle.
+fn wheel(random: &mut Random, m: usize, lean: usize) -> Vec<Point> {
+    let radius = random.within(16..=56) as i64;
+    let jitter = random.within(0..=8);
+    let away = radius * random.within(0..=lean) as i64 / 100;
+    let (towards_x, towards_y) = random.pick(&CIRCLE);
+    let (x, y) = (away * towards_x / 1000, away * towards_y / 1000);
+    let (up, down) = (random.within(4..=60) as i64, random.within(4..=60) as i64);
+    let mut places = vec![middle(x, y, up), middle(x, y, -down)];
+    for step in 0..m {
+        let (cosine, sine) = CIRCLE[step * CIRCLE.len() / m.max(1) % CIRCLE.len()];
+        let [dx, dy, dz] = [0; 3].map(|_| random.within(0..=2 * jitter) as i64 - jitter as i64);
+        places.push(middle(
+            radius * cosine / 1000 + dx,
+            radius * sine / 1000 + dy,
+            dz,
+        ));
+    }
+    places
+}
+
+/// The edge goes through the middle of the side from the last ring point to the first.
+fn on_side(random: &mut Random, m: usize) -> Vec<Point> {
+    let mut places = wheel(random, m, 0);
+    let last = m + 1;
+    for axis in [0, 1] {
+        let from = places[last][axis];
+        let middle = (u16::from(from) + u16::from(places[2][axis])) / 2;
+        places[2][axis] = (2 * middle - u16::from(from)) as u8;
+        places[0][axis] = middle as u8;
+        places[1][axis] = middle as u8;
+    }
+    turned_to_start(random, places)
+}
+
+/// vi and v(m+1-i) are mirror images, and so are a and b with their own images.
+fn mirrored(random: &mut Random, m: usize) -> Vec<Point> {
+    let regular = random.percent(60);
+    let lean = if random.percent(50) { 130 } else { 0 };
+    let mut places = match regular {
+        true => wheel(random, m, lean),
+        false => crowded(random, m),
+    };
+    for end in &mut places[..2] {
+        end[0] = MIDDLE;
+    }
+    for step in 0..m {
+        let image = m - 1 - step;
+        let [x, y, z] = places[2 + step];
+        places[2 + image] = match image == step {
+            true => [MIDDLE, y, z],
+            false => [MAX_COORDINATE - x, y, z],
+        };
+    }
+    turned_to_start(random, places)
+}
+
+/// The same ring with another first point.
+fn turned_to_start(random: &mut Random, mut places: Vec<Point>) -> Vec<Point> {
+    let m = places.len() - 2;
+    places[2..].rotate_left(random.below(m.max(1)));
+    places
+}
+
+/// One end in the plane of the ring.
+fn level(random: &mut Random, m: usize) -> Vec<Point> {
+    let mut places = wheel(random, m, 130);
+    let end = random.below(2);
+    for place in places.iter_mut().skip(2) {
+        place[2] = MIDDLE;
+    }
+    places[end][2] = MIDDLE;
+    places
+}
+
+/// Coordinates from a few values, somewhere in the box.
+fn crowded(random: &mut Random, m: usize) -> Vec<Point> {
+    let values = random.within(2..=6);
+    let step = random.within(1..=usize::from(MAX_COORDINATE) / (values - 1));
+    let shift = random.within(0..=usize::from(MAX_COORDINATE) - step * (values - 1));
+    let mut coordinate = || (shift + step * random.below(values)) as u8;
+    (0..m + 2)
+        .map(|_| [coordinate(), coordinate(), coordinate()])
+        .collect()
+}
+
+/// A place given from the middle of the box.
+fn middle(x: i64, y: i64, z: i64) -> Point {
+    [x, y, z].map(|c| (c + i64::from(MIDDLE)).clamp(0, i64::from(MAX_COORDINATE)) as u8)
+}

@@ -1,0 +1,159 @@
+//! The calls as a caller sees them: inputs, the output as it came, and what each leaves behind.
+
+use super::answer;
+use super::block::{open, seal};
+use super::flips::{flip_23, flip_32};
+use super::limits::BLOCK_BYTES;
+use super::measure::PageRow;
+use super::printout::printout;
+use super::removal::remove;
+use super::summary::{summary, Summary};
+
+/// Numbers that a summary is handed out as.
+pub const SUMMARY_NUMBERS: usize = 7;
+/// Numbers of a page row.
+pub const PAGE_NUMBERS: usize = 2;
+
+/// One call with all its inputs; `out` and `row` are the output as it came.
+#[derive(Clone, Debug, PartialEq)]
+pub enum Call {
+    Open {
+        block: Vec<u8>,
+    },
+    Seal {
+        fields: Vec<u8>,
+        out: Vec<u8>,
+    },
+    Summary {
+        block: Vec<u8>,
+        out: Vec<u64>,
+    },
+    Remove {
+        block: Vec<u8>,
+        ends: [usize; 2],
+        out: Vec<u8>,
+    },
+    Page {
+        block: Vec<u8>,
+        ends: [usize; 2],
+        row: Vec<f64>,
+    },
+    Flip32 {
+        block: Vec<u8>,
+        ends: [usize; 2],
+        out: Vec<u8>,
+    },
+    Flip23 {
+        block: Vec<u8>,
+        face: [usize; 3],
+        out: Vec<u8>,
+    },
+    Printout {
+        input: Vec<u8>,
+    },
+}
+
+/// What a call leaves behind: its answer and every element of its output.
+#[derive(Clone, Debug, PartialEq)]
+pub enum Outcome {
+    Answer(u32),
+    Bytes(u32, Vec<u8>),
+    Numbers(u32, Vec<u64>),
+    /// The bits of each f64, so that 0.0 and -0.0 differ.
+    Page(u32, Vec<u64>),
+    Text(String),
+}
+
+impl Outcome {
+    /// The answer's number; a text begins with it.
+    pub fn answer(&self) -> u32 {
+        match self {
+            Outcome::Answer(number)
+            | Outcome::Bytes(number, _)
+            | Outcome::Numbers(number, _)
+            | Outcome::Page(number, _) => *number,
+            Outcome::Text(text) => {
+                let first = text.lines().next().expect("a printout has a line");
+                let number = first.strip_prefix("answer ").expect("it is the answer");
+                number.parse().expect("a number")
+            }
+        }
+    }
+}
+
+/// The model's outcome of a call.
+pub fn run(call: &Call) -> Outcome {
+    match call.clone() {
+        Call::Open { block } => Outcome::Answer(number_of(open(&block))),
+        Call::Seal { fields, mut out } => Outcome::Bytes(seal(&fields, &mut out), out),
+        Call::Summary { block, mut out } => Outcome::Numbers(summary_into(&block, &mut out), out),
+        Call::Remove {
+            block,
+            ends: [a, b],
+            mut out,
+        } => Outcome::Bytes(number_of(remove(&block, a, b, &mut out)), out),
+        Call::Page {
+            block,
+            ends,
+            mut row,
+        } => {
+            let number = page_into(&block, ends, &mut row);
+            Outcome::Page(number, row.into_iter().map(f64::to_bits).collect())
+        }
+        Call::Flip32 {
+            block,
+            ends: [a, b],
+            mut out,
+        } => Outcome::Bytes(flip_32(&block, a, b, &mut out), out),
+        Call::Flip23 {
+            block,
+            face,
+            mut out,
+        } => Outcome::Bytes(flip_23(&block, face, &mut out), out),
+        Call::Printout { input } => Outcome::Text(printout(&input)),
+    }
+}
+
+fn number_of<T>(outcome: Result<T, u32>) -> u32 {
+    outcome.err().unwrap_or(answer::DONE)
+}
+
+/// Upright, flat, inverted, has_worst, worst, has_octave, octave; 0 where there is a mark.
+fn summary_into(block: &[u8], out: &mut [u64]) -> u32 {
+    if out.len() != SUMMARY_NUMBERS {
+        return answer::LENGTH;
+    }
+    match summary(block) {
+        Ok(summary) => {
+            out.copy_from_slice(&as_numbers(summary));
+            answer::DONE
+        }
+        Err(number) => number,
+    }
+}
+
+fn as_numbers(summary: Summary) -> [u64; SUMMARY_NUMBERS] {
+    let [upright, flat, inverted] = [summary.upright, summary.flat, summary.inverted];
+    let marked = |mark: Option<u32>| [u64::from(mark.is_some()), u64::from(mark.unwrap_or(0))];
+    let [has_worst, worst] = marked(summary.worst);
+    let [has_octave, octave] = marked(summary.octave);
+    let counts = [upright, flat, inverted].map(|count| count as u64);
+    [
+        counts[0], counts[1], counts[2], has_worst, worst, has_octave, octave,
+    ]
+}
+
+/// "there is a page row only with answer 0 of a removal".
+fn page_into(block: &[u8], [a, b]: [usize; 2], row: &mut [f64]) -> u32 {
+    if row.len() != PAGE_NUMBERS {
+        return answer::LENGTH;
+    }
+    match remove(block, a, b, &mut [0; BLOCK_BYTES]) {
+        Ok(removal) => {
+            let PageRow { before, after } = removal.page;
+            row.copy_from_slice(&[before, after]);
+            answer::DONE
+        }
+        Err(number) => number,
+    }
+}

@@ -1,0 +1,105 @@
+//! "Plain flips (no quality test)".
+
+use super::answer;
+use super::block::{open, Patch};
+use super::limits::{BLOCK_BYTES, MAX_ROWS, SHORTEST_RING};
+use super::mesh::{even_arrangements, mesh_rule, Numbers, Row};
+use super::pieces::ring_admissible;
+use super::ring::site;
+use super::triangulations::{new_rows, ways};
+
+/// "3-2: removal of an edge with m = 3." Writes the block afterwards and answers 0, or refuses.
+pub fn flip_32(block: &[u8], a: usize, b: usize, out: &mut [u8]) -> u32 {
+    written(block, out, |patch| three_to_two(patch, a, b))
+}
+
+/// "2-3: a face u,v,w in two rows". Writes the block afterwards and answers 0, or refuses.
+pub fn flip_23(block: &[u8], face: [usize; 3], out: &mut [u8]) -> u32 {
+    written(block, out, |patch| two_to_three(patch, face))
+}
+
+/// Lengths first, then the block, then the flip; only answer 0 writes.
+fn written(block: &[u8], out: &mut [u8], flip: impl Fn(&Patch) -> Result<Patch, u32>) -> u32 {
+    if block.len() != BLOCK_BYTES || out.len() != BLOCK_BYTES {
+        return answer::LENGTH;
+    }
+    match open(block).and_then(|patch| flip(&patch)) {
+        Ok(after) => {
+            out.copy_from_slice(&after.to_bytes());
+            answer::DONE
+        }
+        Err(number) => number,
+    }
+}
+
+/// Answers 9 to 13 and 15. The table gets one row shorter, so 14 never comes.
+fn three_to_two(patch: &Patch, a: usize, b: usize) -> Result<Patch, u32> {
+    let site = site(patch, a, b)?;
+    if site.m() != SHORTEST_RING {
+        return Err(answer::RING_LENGTH);
+    }
+    let [only_way] = ways(1, SHORTEST_RING) else {
+        unreachable!("three points have one triangle");
+    };
+    if !ring_admissible(patch, &site, only_way) {
+        return Err(answer::NOT_ADMISSIBLE);
+    }
+    Ok(site.patch_after(patch, &new_rows(&site, only_way)))
+}
+
+/// Answers 9, 10, 11, 18, 14 and 15.
+fn two_to_three(patch: &Patch, face: [usize; 3]) -> Result<Patch, u32> {
+    let count = patch.points.len();
+    let [x, y, z] = face;
+    if face.iter().any(|n| *n >= count) || x == y || y == z || x == z {
+        return Err(answer::BAD_NUMBER);
+    }
+    let face = face.map(|n| n as u8);
+    let (going, kept): (Vec<Row>, Vec<Row>) = patch.rows.iter().partition(|row| row.holds(&face));
+    let (first, second) = match going[..] {
+        [] => return Err(answer::NOT_HELD),
+        [_] => return Err(answer::OPEN),
+        [first, second] => (first, second),
+        _ => unreachable!("a face stands in at most two rows, once each way"),
+    };
+    let (first_apex, second_apex) = (apex(first.numbers, face), apex(second.numbers, face));
+    if first_apex == second_apex {
+        return Err(answer::ONE_APEX);
+    }
+    if kept.len() + 3 > MAX_ROWS {
+        return Err(answer::ROOM);
+    }
+    let (a, b, row_of_a) = match first_apex < second_apex {
+        true => (first_apex, second_apex, first),
+        false => (second_apex, first_apex, second),
+    };
+    let mut rows = kept;
+    for numbers in three_rows(a, b, row_of_a.numbers, face) {
+        rows.push(Row {
+            numbers,
+            region: first.region,
+        });
+    }
+    if !mesh_rule(&rows, count) {
+        return Err(answer::NOT_ADMISSIBLE);
+    }
+    Ok(Patch {
+        points: patch.points.clone(),
+        rows,
+    })
+}
+
+/// The point of a row that is not on its face.
+fn apex(numbers: Numbers, face: [u8; 3]) -> u8 {
+    let off_face = numbers.into_iter().find(|n| !face.contains(n));
+    off_face.expect("a row has a point off its face")
+}
+
+/// "a is the smaller apex, u the smallest number of the face, and (a,u,v,w) an even arrangement of
+/// a's row"; "(a,b,u,v), (a,b,v,w), (a,b,w,u) are appended".
+fn three_rows(a: u8, b: u8, row_of_a: Numbers, face: [u8; 3]) -> [Numbers; 3] {
+    let u = face.into_iter().min().expect("a face has numbers");
+    let arranged = even_arrangements(row_of_a).find(|n| n[0] == a && n[1] == u);
+    let [_, _, v, w] = arranged.expect("a's row holds a and u");
+    [[a, b, u, v], [a, b, v, w], [a, b, w, u]]
+}

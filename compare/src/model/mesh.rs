@@ -1,0 +1,104 @@
+//! "Orientation, faces and the mesh rule".
+
+use super::limits::MAX_POINTS;
+
+/// Point numbers of a row.
+pub type Numbers = [u8; 4];
+/// Three point numbers with a direction; turning them round in a circle gives the same face.
+pub type Face = [u8; 3];
+
+/// "four point numbers, then the region".
+#[derive(Clone, Copy, Debug, PartialEq, Eq, PartialOrd, Ord, Hash)]
+pub struct Row {
+    pub numbers: Numbers,
+    pub region: u8,
+}
+
+impl Row {
+    /// Does the row hold all of these points?
+    pub fn holds(&self, points: &[u8]) -> bool {
+        points.iter().all(|point| self.numbers.contains(point))
+    }
+}
+
+/// The twelve even rearrangements of four places.
+pub const EVEN: [[usize; 4]; 12] = [
+    [0, 1, 2, 3],
+    [0, 2, 3, 1],
+    [0, 3, 1, 2],
+    [1, 0, 3, 2],
+    [1, 2, 0, 3],
+    [1, 3, 2, 0],
+    [2, 0, 1, 3],
+    [2, 1, 3, 0],
+    [2, 3, 0, 1],
+    [3, 0, 2, 1],
+    [3, 1, 0, 2],
+    [3, 2, 1, 0],
+];
+
+/// Every even rearrangement of a row's four numbers.
+pub fn even_arrangements(numbers: Numbers) -> impl Iterator<Item = Numbers> {
+    EVEN.iter()
+        .map(move |places| places.map(|place| numbers[place]))
+}
+
+/// "Row (p,q,r,s) has the directed faces (q,r,s), (p,s,r), (p,q,s), (p,r,q)".
+pub fn faces([p, q, r, s]: Numbers) -> [Face; 4] {
+    [[q, r, s], [p, s, r], [p, q, s], [p, r, q]]
+}
+
+/// "turning a face's three numbers round in a circle gives the same face": smallest first.
+pub fn turned([p, q, r]: Face) -> Face {
+    if p < q && p < r {
+        [p, q, r]
+    } else if q < r {
+        [q, r, p]
+    } else {
+        [r, p, q]
+    }
+}
+
+/// "the numbers of a row are below the point count and all different".
+pub fn numbers_are_good(numbers: Numbers, point_count: usize) -> bool {
+    let below = numbers.iter().all(|n| usize::from(*n) < point_count);
+    let different = (0..4).all(|x| (x + 1..4).all(|y| numbers[x] != numbers[y]));
+    below && different
+}
+
+/// "no directed face stands in two rows", the negation: some directed face does.
+/// The numbers of each row are good, so no row has one directed face twice by itself.
+pub fn a_face_stands_twice(rows: &[Row]) -> bool {
+    let mut seen = FaceSet::empty();
+    rows.iter()
+        .flat_map(|row| faces(row.numbers))
+        .any(|face| !seen.insert(turned(face)))
+}
+
+/// The mesh rule of a whole table, from scratch.
+pub fn mesh_rule(rows: &[Row], point_count: usize) -> bool {
+    rows.iter()
+        .all(|row| numbers_are_good(row.numbers, point_count))
+        && !a_face_stands_twice(rows)
+}
+
+/// A set of directed faces: one bit for each three numbers below the largest point count.
+struct FaceSet {
+    bits: Vec<u64>,
+}
+
+impl FaceSet {
+    fn empty() -> FaceSet {
+        FaceSet {
+            bits: vec![0; MAX_POINTS * MAX_POINTS],
+        }
+    }
+
+    /// Adds a face; says whether it was absent.
+    fn insert(&mut self, [p, q, r]: Face) -> bool {
+        let word = &mut self.bits[usize::from(p) * MAX_POINTS + usize::from(q)];
+        let absent = *word >> r & 1 == 0;
+        *word |= 1 << r;
+        absent
+    }
+}

@@ -1,0 +1,104 @@
+//! The links round an edge, and the ring they close to: answers 9 to 12.
+
+use super::answer;
+use super::block::Patch;
+use super::mesh::{even_arrangements, Numbers, Row};
+
+/// "Each row holding both is rearranged evenly as (a,b,v,w) and gives a link v to w."
+#[derive(Clone, Copy, Debug, PartialEq, Eq)]
+pub struct Link {
+    pub v: u8,
+    pub w: u8,
+}
+
+/// An edge whose rows close to one ring.
+#[derive(Clone, Debug)]
+pub struct Site {
+    /// "The edge's two ends are put in order, a < b".
+    pub a: u8,
+    pub b: u8,
+    /// v1 to vm.
+    pub ring: Vec<u8>,
+    /// The rows that hold both ends, in the table's order.
+    pub removed: Vec<Row>,
+    /// All other rows, in the table's order.
+    pub kept: Vec<Row>,
+    /// "New rows take the region of the first removed row in the table."
+    pub region: u8,
+}
+
+impl Site {
+    /// m, the length of the ring.
+    pub fn m(&self) -> usize {
+        self.ring.len()
+    }
+
+    /// vi, with i counted from 1.
+    pub fn v(&self, i: usize) -> u8 {
+        self.ring[i - 1]
+    }
+
+    /// "The new block has the kept rows in order. Then come the new rows"; "points stay".
+    pub fn patch_after(&self, patch: &Patch, new: &[Numbers]) -> Patch {
+        let new = new.iter().map(|numbers| Row {
+            numbers: *numbers,
+            region: self.region,
+        });
+        Patch {
+            points: patch.points.clone(),
+            rows: self.kept.iter().copied().chain(new).collect(),
+        }
+    }
+}
+
+/// The site of an edge, or the first of the answers 9 to 12.
+pub fn site(patch: &Patch, end: usize, other_end: usize) -> Result<Site, u32> {
+    let count = patch.points.len();
+    if end >= count || other_end >= count || end == other_end {
+        return Err(answer::BAD_NUMBER);
+    }
+    let (a, b) = (end.min(other_end) as u8, end.max(other_end) as u8);
+    let (removed, kept): (Vec<Row>, Vec<Row>) =
+        patch.rows.iter().partition(|row| row.holds(&[a, b]));
+    if removed.is_empty() {
+        return Err(answer::NOT_HELD);
+    }
+    let links: Vec<Link> = removed.iter().map(|row| link(row.numbers, a, b)).collect();
+    if links.iter().any(|first| walk(&links, *first).is_none()) {
+        return Err(answer::OPEN);
+    }
+    let first = links.iter().min_by_key(|link| link.v).expect("some link");
+    let ring = walk(&links, *first).expect("every link closes");
+    if ring.len() < links.len() {
+        return Err(answer::CIRCLES);
+    }
+    let region = removed[0].region;
+    Ok(Site {
+        a,
+        b,
+        ring,
+        removed,
+        kept,
+        region,
+    })
+}
+
+/// The link of a row that holds both ends.
+pub fn link(numbers: Numbers, a: u8, b: u8) -> Link {
+    let arranged = even_arrangements(numbers).find(|n| n[0] == a && n[1] == b);
+    let [_, _, v, w] = arranged.expect("the row holds both ends");
+    Link { v, w }
+}
+
+/// "The walk round the edge ends at the first missing link, or when it is back at its start."
+/// In a table that keeps the mesh rule a point starts at most one link and ends at most one, so a
+/// walk meets no point twice before its start.
+fn walk(links: &[Link], first: Link) -> Option<Vec<u8>> {
+    let mut circle = vec![first.v];
+    let mut at = first.w;
+    while at != first.v {
+        circle.push(at);
+        at = links.iter().find(|link| link.v == at)?.w;
+    }
+    Some(circle)
+}

@@ -1,0 +1,189 @@
+//! Removal written a second time, by document 001's tables, and kernels that get one thing wrong.
+//!
+//! Without a fault it has to agree with `model` on every case. With a fault it shows whether the
+//! cases can tell that wrong kernel from a right one.
+
+mod order;
+mod table;
+
+use crate::model::limits::{LONGEST_RING, MAX_ROWS, SHORTEST_RING};
+use crate::model::removal::total_d;
+use crate::model::{answer, Patch, Quality, Row};
+use table::Table;
+
+pub use order::whole_part_order;
+
+/// What a rival gets wrong.
+#[derive(Clone, Copy, Debug, PartialEq, Eq)]
+pub enum Fault {
+    None,
+    ComparesRounded,
+    IgnoresTheSign,
+    ForgetsDiagonals,
+    ForgetsDiagonalsOfB,
+    ForgetsTriangles,
+    LooksOneWayRound,
+    JudgesTheRingSide,
+    TakesLargestApex,
+    FansTheRest,
+    TakesEqualForBetter,
+    ComparesWithPatchWorst,
+    StartsAtFirstRow,
+    TakesRegionOfV1,
+    TestsRoomLast,
+    CirclesBeforeChains,
+    CutsEndsToBytes,
+    SwapsRowPair,
+}
+
+/// Every wrong kernel.
+pub const FAULTS: [Fault; 17] = [
+    Fault::ComparesRounded,
+    Fault::IgnoresTheSign,
+    Fault::ForgetsDiagonals,
+    Fault::ForgetsDiagonalsOfB,
+    Fault::ForgetsTriangles,
+    Fault::LooksOneWayRound,
+    Fault::JudgesTheRingSide,
+    Fault::TakesLargestApex,
+    Fault::FansTheRest,
+    Fault::TakesEqualForBetter,
+    Fault::ComparesWithPatchWorst,
+    Fault::StartsAtFirstRow,
+    Fault::TakesRegionOfV1,
+    Fault::TestsRoomLast,
+    Fault::CirclesBeforeChains,
+    Fault::CutsEndsToBytes,
+    Fault::SwapsRowPair,
+];
+
+/// The patch after the removal, or the answer: 9 to 17.
+pub fn removal(patch: &Patch, ends: [usize; 2], fault: Fault) -> Result<Patch, u32> {
+    let [a, b] = ordered_ends(patch, ends, fault)?;
+    let hit: Vec<bool> = patch
+        .rows
+        .iter()
+        .map(|row| row.numbers.contains(&a) && row.numbers.contains(&b))
+        .collect();
+    let links: Vec<(u8, u8)> = (0..hit.len())
+        .filter(|index| hit[*index])
+        .map(|index| link_by_parity(patch.rows[index].numbers, a, b))
+        .collect();
+    let ring = circle(&links, fault)?;
+    let m = ring.len();
+    if !(SHORTEST_RING..=LONGEST_RING).contains(&m) {
+        return Err(answer::RING_LENGTH);
+    }
+    let no_room = patch.rows.len() + m > MAX_ROWS + 4;
+    if no_room && fault != Fault::TestsRoomLast {
+        return Err(answer::ROOM);
+    }
+    let kept: Vec<Row> = pick(patch, &hit, false);
+    let removed: Vec<Row> = pick(patch, &hit, true);
+    let table = Table::fill(patch, &kept, a, b, &ring, fault);
+    let new = table.expanded().ok_or(answer::NOT_ADMISSIBLE)?;
+    let judged = match fault {
+        Fault::ComparesWithPatchWorst => &patch.rows,
+        _ => &removed,
+    };
+    let old_worst = order::worst(patch, judged, fault);
+    if !order::good_enough(table.best_worst(), old_worst, fault) {
+        return Err(answer::NONE_BETTER);
+    }
+    if no_room {
+        return Err(answer::ROOM);
+    }
+    let region = region_of(&removed, &links, ring[0], fault);
+    let new = new.into_iter().map(|numbers| Row { numbers, region });
+    let after = Patch {
+        points: patch.points.clone(),
+        rows: kept.into_iter().chain(new).collect(),
+    };
+    match total_d(patch) == total_d(&after) {
+        true => Ok(after),
+        false => Err(answer::TOTAL_DIFFERS),
+    }
+}
+
+fn ordered_ends(patch: &Patch, ends: [usize; 2], fault: Fault) -> Result<[u8; 2], u32> {
+    let [x, y] = match fault {
+        Fault::CutsEndsToBytes => ends.map(|end| end % 256),
+        _ => ends,
+    };
+    if x.max(y) >= patch.points.len() || x == y {
+        return Err(answer::BAD_NUMBER);
+    }
+    Ok([x.min(y) as u8, x.max(y) as u8])
+}
+
+fn pick(patch: &Patch, hit: &[bool], wanted: bool) -> Vec<Row> {
+    let indexed = patch.rows.iter().zip(hit);
+    indexed
+        .filter(|(_, is)| **is == wanted)
+        .map(|(row, _)| *row)
+        .collect()
+}
+
+/// v and w of the even arrangement (a,b,v,w), by counting how many pairs stand out of order.
+fn link_by_parity(numbers: [u8; 4], a: u8, b: u8) -> (u8, u8) {
+    let at = |end: u8| numbers.iter().position(|n| *n == end).expect("held");
+    let rest: Vec<usize> = (0..4).filter(|x| ![at(a), at(b)].contains(x)).collect();
+    let order = [at(a), at(b), rest[0], rest[1]];
+    let swaps: usize = (0..4)
+        .map(|x| (x + 1..4).filter(|y| order[x] > order[*y]).count())
+        .sum();
+    let (v, w) = (numbers[rest[0]], numbers[rest[1]]);
+    match swaps % 2 {
+        0 => (v, w),
+        _ => (w, v),
+    }
+}
+
+/// The one circle that all links form: answers 10 to 12.
+fn circle(links: &[(u8, u8)], fault: Fault) -> Result<Vec<u8>, u32> {
+    let &(first_v, _) = links.first().ok_or(answer::NOT_HELD)?;
+    let mut next = [None; 256];
+    let mut ended = [false; 256];
+    for (v, w) in links {
+        next[usize::from(*v)] = Some(*w);
+        ended[usize::from(*w)] = true;
+    }
+    let all_close = (0..256).all(|p| next[p].is_some() == ended[p]);
+    let start = match fault {
+        Fault::StartsAtFirstRow => first_v,
+        _ => links.iter().map(|(v, _)| *v).min().expect("some link"),
+    };
+    let mut ring = vec![start];
+    while let Some(w) = next[usize::from(ring[ring.len() - 1])].filter(|w| *w != start) {
+        ring.push(w);
+    }
+    match (all_close, ring.len() == links.len()) {
+        (false, false) if fault == Fault::CirclesBeforeChains => Err(answer::CIRCLES),
+        (false, _) => Err(answer::OPEN),
+        (true, false) => Err(answer::CIRCLES),
+        (true, true) => Ok(ring),
+    }
+}
+
+fn region_of(removed: &[Row], links: &[(u8, u8)], v1: u8, fault: Fault) -> u8 {
+    let of_v1 = links
+        .iter()
+        .position(|(v, _)| *v == v1)
+        .expect("v1 starts a link");
+    match fault {
+        Fault::TakesRegionOfV1 => removed[of_v1].region,
+        _ => removed[0].region,
+    }
+}
+
+/// The quality of four points given by number, as a rival sees it.
+fn seen_quality(patch: &Patch, numbers: [u8; 4], fault: Fault) -> Quality {
+    let quality = Quality::of(numbers.map(|number| patch.points[usize::from(number)]));
+    match fault {
+        Fault::IgnoresTheSign => Quality {
+            numerator: quality.numerator.abs(),
+            denominator: quality.denominator,
+        },
+        _ => quality,
+    }
+}

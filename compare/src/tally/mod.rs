@@ -1,0 +1,238 @@
+//! What a run of cases covered: how often each answer came, each ring length, each fine point.
+
+use crate::gen::Case;
+use crate::model::limits::{BLOCK_BYTES, LONGEST_RING, MAX_ROWS};
+use crate::model::mesh::Row;
+use crate::model::removal::worst_removed;
+use crate::model::ring::{site, Site};
+use crate::model::{answer, open, run, Call, Outcome, Patch, Quality};
+use crate::rivals::{removal, Fault, FAULTS};
+use std::collections::BTreeMap;
+
+mod print;
+
+/// Answers are 0 to 18.
+pub const ANSWERS: usize = 19;
+
+/// Rings of this length and longer share a line.
+const LONGER: usize = LONGEST_RING + 2;
+
+/// How often each answer came.
+pub type Counts = [u64; ANSWERS];
+
+#[derive(Clone, Default)]
+pub struct Tally {
+    pub cases: u64,
+    pub calls: BTreeMap<&'static str, Counts>,
+    pub families: BTreeMap<&'static str, Counts>,
+    /// Answers of removals whose edge has one ring, by its length.
+    pub rings: BTreeMap<usize, Counts>,
+    /// Removals that tell a wrong kernel from the model, by what it gets wrong.
+    pub told: BTreeMap<String, u64>,
+    /// Fine points that removals went through.
+    pub points: BTreeMap<&'static str, u64>,
+    /// Cases where the model disagreed with the case's builder or with the second removal.
+    pub disagreements: Vec<String>,
+}
+
+impl Tally {
+    /// Runs the cases through the model and counts.
+    pub fn of(cases: impl Iterator<Item = Case>) -> Tally {
+        let mut tally = Tally::default();
+        for case in cases {
+            tally.add(&case);
+        }
+        tally
+    }
+
+    fn add(&mut self, case: &Case) {
+        let outcome = run(&case.call);
+        let number = outcome.answer();
+        self.cases += 1;
+        count(&mut self.calls, name(&case.call), number);
+        count(&mut self.families, case.family, number);
+        if case.meant.is_some_and(|meant| meant != number) {
+            self.disagreements.push(format!("got {number}: {case:?}"));
+        }
+        self.add_page(&outcome);
+        let Some((block, ends)) = edge_of(&case.call) else {
+            return;
+        };
+        let Ok(patch) = open(block) else {
+            return;
+        };
+        let site = site(&patch, ends[0], ends[1]).ok();
+        let removal = !matches!(case.call, Call::Flip32 { .. }) && number != answer::LENGTH;
+        if let (Some(site), true) = (&site, removal) {
+            count(&mut self.rings, site.m().min(LONGER), number);
+        }
+        if let (Call::Remove { out, .. }, Outcome::Bytes(_, bytes)) = (&case.call, &outcome) {
+            if out.len() == BLOCK_BYTES {
+                let written = (number == answer::DONE).then(|| open(bytes).expect("it opens"));
+                self.add_rivals(&patch, ends, written.as_ref().ok_or(number));
+                if let Some(site) = site {
+                    self.add_points(&patch, &site, number, written);
+                }
+            }
+        }
+    }
+
+    fn add_page(&mut self, outcome: &Outcome) {
+        let Outcome::Page(answer::DONE, row) = outcome else {
+            return;
+        };
+        let [before, after] = [row[0], row[1]].map(f64::from_bits);
+        self.point("page row: negative before", before < 0.0);
+        self.point("page row: zero before", before == 0.0);
+        self.point("page row: positive before", before > 0.0);
+        self.point("page row: negative after", after < 0.0);
+        self.point("page row: zero after", after == 0.0);
+        self.point("page row: positive after", after > 0.0);
+        self.point("page row: worst unchanged", before == after);
+    }
+
+    fn add_rivals(&mut self, patch: &Patch, ends: [usize; 2], right: Result<&Patch, u32>) {
+        let differs = |fault: Fault| removal(patch, ends, fault).as_ref().map_err(|n| *n) != right;
+        if differs(Fault::None) {
+            self.disagreements
+                .push(format!("the second removal differs on {patch:?}, {ends:?}"));
+        }
+        for fault in FAULTS {
+            *self.told.entry(format!("{fault:?}")).or_default() += u64::from(differs(fault));
+        }
+    }
+
+    fn add_points(&mut self, patch: &Patch, site: &Site, number: u32, after: Option<Patch>) {
+        let regions = site.removed.iter().any(|row| row.region != site.region);
+        self.point("ring of several regions", regions);
+        self.point(
+            "60 rows before, answer 0",
+            number == 0 && patch.rows.len() == MAX_ROWS,
+        );
+        self.point(
+            "14 and 15 at once",
+            self.blocked_without_room(patch, site, number),
+        );
+        if number == answer::NONE_BETTER {
+            self.add_equal(patch, site);
+        }
+        let Some(after) = after else {
+            return;
+        };
+        let new = &after.rows[site.kept.len()..];
+        self.add_tie(patch, site, new);
+        let sign = |rows: &[Row], sign: i128| {
+            let quality = |row: &Row| Quality::of(patch.corners(row)).numerator.signum();
+            rows.iter().any(|row| quality(row) == sign)
+        };
+        self.point("answer 0: a removed row is flat", sign(&site.removed, 0));
+        self.point(
+            "answer 0: a removed row is inverted",
+            sign(&site.removed, -1),
+        );
+        self.point(
+            "answer 0: all removed rows upright",
+            !sign(&site.removed, 0) && !sign(&site.removed, -1),
+        );
+        self.point("answer 0: a new row is flat", sign(new, 0));
+        self.point("answer 0: a new row is inverted", sign(new, -1));
+        self.point(
+            "answer 0: points of the ring coincide",
+            coincide(patch, site),
+        );
+        self.point("answer 0: 60 rows after", after.rows.len() == MAX_ROWS);
+        self.point("answer 0: kept rows", !site.kept.is_empty());
+    }
+
+    fn blocked_without_room(&self, patch: &Patch, site: &Site, number: u32) -> bool {
+        let ends = [site.a, site.b].map(usize::from);
+        number == answer::ROOM
+            && removal(patch, ends, Fault::TestsRoomLast) == Err(answer::NOT_ADMISSIBLE)
+    }
+
+    /// None better because the best is just equal: is it written with the same two numbers?
+    fn add_equal(&mut self, patch: &Patch, site: &Site) {
+        let ends = [site.a, site.b].map(usize::from);
+        let Ok(equal) = removal(patch, ends, Fault::TakesEqualForBetter) else {
+            return;
+        };
+        let new = equal.rows[site.kept.len()..].iter();
+        let new = new.map(|row| Quality::of(patch.corners(row))).min();
+        let (new, old) = (new.expect("new rows"), worst_removed(patch, site));
+        let zero = old.numerator == 0;
+        let same = new.numerator == old.numerator;
+        self.point("16 by equal: both zero", zero);
+        self.point("16 by equal: same two numbers", !zero && same);
+        self.point(
+            "16 by equal: other numerator and denominator",
+            !zero && !same,
+        );
+    }
+
+    /// A tie that the smallest apex decides: is it written with the same two numbers?
+    fn add_tie(&mut self, patch: &Patch, site: &Site, new: &[Row]) {
+        let ends = [site.a, site.b].map(usize::from);
+        let Ok(other) = removal(patch, ends, Fault::TakesLargestApex) else {
+            return;
+        };
+        let other = &other.rows[site.kept.len()..];
+        if other == new {
+            return;
+        }
+        let worst = |rows: &[Row]| {
+            let qualities = rows.iter().map(|row| Quality::of(patch.corners(row)));
+            qualities.min().expect("new rows").numerator
+        };
+        let (taken, left) = (worst(new), worst(other));
+        let whole = new[0] != other[0];
+        self.point("tie in the whole ring", whole);
+        self.point("tie only in a piece below", !whole);
+        self.point("tie at zero", taken == 0);
+        self.point("tie of other numerator and denominator", taken != left);
+    }
+
+    fn point(&mut self, name: &'static str, seen: bool) {
+        *self.points.entry(name).or_default() += u64::from(seen);
+    }
+}
+
+fn count<K: Ord>(table: &mut BTreeMap<K, Counts>, key: K, number: u32) {
+    table.entry(key).or_insert([0; ANSWERS])[number as usize] += 1;
+}
+
+pub fn name(call: &Call) -> &'static str {
+    match call {
+        Call::Open { .. } => "open",
+        Call::Seal { .. } => "seal",
+        Call::Summary { .. } => "summary",
+        Call::Remove { .. } => "remove",
+        Call::Page { .. } => "page",
+        Call::Flip32 { .. } => "flip 3-2",
+        Call::Flip23 { .. } => "flip 2-3",
+        Call::Printout { .. } => "printout",
+    }
+}
+
+/// The block and the ends of a call about an edge.
+fn edge_of(call: &Call) -> Option<(&[u8], [usize; 2])> {
+    match call {
+        Call::Remove { block, ends, .. }
+        | Call::Page { block, ends, .. }
+        | Call::Flip32 { block, ends, .. } => Some((block, *ends)),
+        Call::Printout { input } => {
+            let (block, ends) = input.split_at(input.len().checked_sub(2)?);
+            Some((block, [ends[0], ends[1]].map(usize::from)))
+        }
+        _ => None,
+    }
+}
+
+fn coincide(patch: &Patch, site: &Site) -> bool {
+    let mut places: Vec<[u8; 3]> = site
+        .ring
+        .iter()
+        .map(|v| patch.points[usize::from(*v)])
+        .collect();
+    places.sort_unstable();
+    places.windows(2).any(|pair| pair[0] == pair[1])
+}

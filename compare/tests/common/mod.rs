@@ -1,0 +1,90 @@
+//! What several tests build.
+
+#![allow(dead_code)]
+
+use compare::gen::{cases, Random};
+use compare::model::limits::BLOCK_BYTES;
+use compare::model::mesh::{even_arrangements, mesh_rule, EVEN};
+use compare::model::{open, Call, Patch, Point, Row};
+
+/// A patch of these points and rows, all rows in one region.
+pub fn patch(points: &[Point], rows: &[[u8; 4]], region: u8) -> Patch {
+    let rows = rows.iter().map(|numbers| Row {
+        numbers: *numbers,
+        region,
+    });
+    Patch {
+        points: points.to_vec(),
+        rows: rows.collect(),
+    }
+}
+
+/// Document 01's block A.
+pub fn block_a() -> Patch {
+    patch(
+        &[[4, 4, 12], [4, 4, 0], [0, 0, 6], [12, 0, 6], [0, 12, 6]],
+        &[[0, 1, 2, 3], [0, 1, 3, 4], [0, 1, 4, 2]],
+        7,
+    )
+}
+
+/// What a removal from block A leaves.
+pub fn block_a_after() -> Patch {
+    let rows = &[[0, 2, 3, 4], [2, 3, 4, 1]];
+    patch(&block_a().points, rows, 7)
+}
+
+/// An output block as it comes.
+pub const UNTOUCHED: [u8; BLOCK_BYTES] = [0xA5; BLOCK_BYTES];
+
+/// The answer of a removal.
+pub fn remove_answer(patch: &Patch, a: usize, b: usize) -> u32 {
+    let mut out = UNTOUCHED;
+    let outcome = compare::model::remove(&patch.to_bytes(), a, b, &mut out);
+    outcome.err().unwrap_or(0)
+}
+
+/// The patches and edges of generated removals whose block opens.
+pub fn edges(seed: u64, count: u64) -> impl Iterator<Item = (Patch, [usize; 2])> {
+    cases(seed, count).filter_map(|case| match case.call {
+        Call::Remove { block, ends, .. } => Some((open(&block).ok()?, ends)),
+        _ => None,
+    })
+}
+
+/// The patch with rows on the points from `from` on, until it has `rows` of them.
+pub fn filled(mut patch: Patch, rows: usize, from: u8) -> Patch {
+    let mut random = Random::of_case(0, 0);
+    let pool: Vec<u8> = (from..patch.points.len() as u8).collect();
+    while patch.rows.len() < rows {
+        let four = random.some(4, &pool);
+        let numbers = [four[0], four[1], four[2], four[3]];
+        patch.rows.push(Row { numbers, region: 0 });
+        if !mesh_rule(&patch.rows, patch.points.len()) {
+            patch.rows.pop();
+        }
+    }
+    patch
+}
+
+/// The same rows in another order, each in another even arrangement.
+pub fn rearranged(patch: &Patch, random: &mut Random) -> Patch {
+    let mut other = patch.clone();
+    random.shuffle(&mut other.rows);
+    for row in &mut other.rows {
+        let numbers = row.numbers;
+        row.numbers = random.pick(&EVEN).map(|place| numbers[place]);
+    }
+    other
+}
+
+/// The rows up to row order and even rearrangement.
+pub fn tetrahedra(patch: &Patch) -> Vec<Row> {
+    let least = |row: &Row| Row {
+        numbers: even_arrangements(row.numbers).min().expect("twelve"),
+        region: row.region,
+    };
+    let mut rows: Vec<Row> = patch.rows.iter().map(least).collect();
+    rows.sort_unstable();
+    rows
+}

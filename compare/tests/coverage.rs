@@ -1,0 +1,90 @@
+//! The cases cover what they are for: good numbers in each line of their table.
+
+use compare::gen::cases;
+use compare::tally::{Counts, Tally};
+use std::sync::LazyLock;
+
+static TALLY: LazyLock<Tally> = LazyLock::new(|| Tally::of(cases(1, 20_000)));
+
+/// The answers each call can get.
+const POSSIBLE: [(&str, &[usize]); 8] = [
+    ("open", &[0, 1, 2, 3, 4, 5, 6, 7, 8]),
+    ("seal", &[0, 1, 3, 4, 5, 6, 7, 8]),
+    ("summary", &[0, 1, 2, 3, 4, 5, 6, 7, 8]),
+    ("remove", &REMOVAL),
+    ("page", &REMOVAL),
+    ("printout", &REMOVAL),
+    (
+        "flip 3-2",
+        &[0, 1, 2, 3, 4, 5, 6, 7, 8, 9, 10, 11, 12, 13, 15],
+    ),
+    (
+        "flip 2-3",
+        &[0, 1, 2, 3, 4, 5, 6, 7, 8, 9, 10, 11, 14, 15, 18],
+    ),
+];
+
+/// 17 is a guard that never stands in the way.
+const REMOVAL: [usize; 17] = [0, 1, 2, 3, 4, 5, 6, 7, 8, 9, 10, 11, 12, 13, 14, 15, 16];
+
+fn holds(name: &str, counts: &Counts, possible: &[usize], least: u64) {
+    for (number, count) in counts.iter().enumerate() {
+        match possible.contains(&number) {
+            true => assert!(*count >= least, "{name}, answer {number}: {count}"),
+            false => assert_eq!(*count, 0, "{name}, answer {number}"),
+        }
+    }
+}
+
+#[test]
+fn every_call_gets_every_answer_it_can_and_no_other() {
+    for (name, possible) in POSSIBLE {
+        holds(name, &TALLY.calls[name], possible, 25);
+    }
+    assert_eq!(TALLY.calls.len(), POSSIBLE.len());
+}
+
+#[test]
+fn rings_of_every_length_get_every_outcome() {
+    for (m, counts) in &TALLY.rings {
+        let name = format!("m = {m}");
+        match m {
+            3 | 4 => holds(&name, counts, &[0, 15, 16], 100),
+            5..=10 => holds(&name, counts, &[0, 14, 15, 16], 80),
+            _ => holds(&name, counts, &[13], 100),
+        }
+    }
+    let lengths: Vec<usize> = TALLY.rings.keys().copied().collect();
+    assert_eq!(lengths, (2..=12).collect::<Vec<_>>());
+}
+
+#[test]
+fn several_faults_show_the_order_of_the_answers() {
+    holds(
+        "one fault",
+        &TALLY.families["one fault"],
+        &[2, 3, 4, 5, 6, 7, 8],
+        80,
+    );
+    let several = &TALLY.families["several faults"];
+    holds("several faults", several, &[2, 3, 4, 5, 6, 7], 80);
+}
+
+#[test]
+fn every_wrong_kernel_is_told_apart() {
+    for (fault, told) in &TALLY.told {
+        assert!(*told >= 100, "{fault}: {told}");
+    }
+}
+
+#[test]
+fn every_fine_point_is_seen() {
+    for (point, seen) in &TALLY.points {
+        assert!(*seen >= 20, "{point}: {seen}");
+    }
+}
+
+#[test]
+fn the_model_agrees_with_every_builder_and_with_the_second_removal() {
+    assert_eq!(TALLY.disagreements, [""; 0]);
+}

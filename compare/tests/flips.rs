@@ -1,0 +1,121 @@
+//! Plain flips: the same bytes for all orders of a face, and the one undoing the other.
+
+mod common;
+
+use common::*;
+use compare::gen::cases;
+use compare::model::removal::total_d;
+use compare::model::{flip_23, flip_32, open, Call, Patch, Row};
+
+/// The blocks and faces of generated 2-3 flips.
+fn faces(seed: u64, count: u64) -> impl Iterator<Item = (Vec<u8>, [usize; 3])> {
+    cases(seed, count).filter_map(|case| match case.call {
+        Call::Flip23 { block, face, out } if out.len() == 512 => Some((block, face)),
+        _ => None,
+    })
+}
+
+fn flipped(block: &[u8], face: [usize; 3]) -> (u32, [u8; 512]) {
+    let mut out = UNTOUCHED;
+    (flip_23(block, face, &mut out), out)
+}
+
+#[test]
+fn all_six_orders_of_a_face_write_the_same_bytes() {
+    for (block, [u, v, w]) in faces(7, 8_000) {
+        let one = flipped(&block, [u, v, w]);
+        for order in [[u, w, v], [v, u, w], [v, w, u], [w, u, v], [w, v, u]] {
+            assert_eq!(one, flipped(&block, order));
+        }
+    }
+}
+
+/// The two rows on the face and their points off it, smaller first.
+fn pair(patch: &Patch, face: [usize; 3]) -> (Vec<Row>, [usize; 2]) {
+    let numbers = face.map(|number| number as u8);
+    let rows: Vec<Row> = patch
+        .rows
+        .iter()
+        .copied()
+        .filter(|row| row.holds(&numbers))
+        .collect();
+    let off = |row: &Row| {
+        row.numbers
+            .into_iter()
+            .find(|n| !numbers.contains(n))
+            .unwrap()
+    };
+    let mut apexes = [usize::from(off(&rows[0])), usize::from(off(&rows[1]))];
+    apexes.sort_unstable();
+    (rows, apexes)
+}
+
+#[test]
+fn a_3_2_flip_undoes_a_2_3_flip() {
+    let mut undone = 0;
+    for (block, face) in faces(8, 12_000) {
+        let (number, out) = flipped(&block, face);
+        if number != 0 {
+            continue;
+        }
+        let before = open(&block).unwrap();
+        let (rows, [a, b]) = pair(&before, face);
+        let both = [a as u8, b as u8];
+        let one_region = rows[0].region == rows[1].region;
+        let apart = !before.rows.iter().any(|row| row.holds(&both));
+        if one_region && apart {
+            let mut back = UNTOUCHED;
+            assert_eq!(flip_32(&out, a, b, &mut back), 0);
+            assert_eq!(tetrahedra(&open(&back).unwrap()), tetrahedra(&before));
+            undone += 1;
+        }
+    }
+    assert!(undone > 100);
+}
+
+#[test]
+fn a_2_3_flip_appends_three_rows_round_the_apexes() {
+    for (block, face) in faces(9, 8_000) {
+        let (number, out) = flipped(&block, face);
+        if number != 0 {
+            continue;
+        }
+        let (before, after) = (open(&block).unwrap(), open(&out).unwrap());
+        let (gone, [a, b]) = pair(&before, face);
+        let mut kept = before.rows.clone();
+        kept.retain(|row| !gone.contains(row));
+        let (old, new) = after.rows.split_at(kept.len());
+        assert_eq!((old, new.len()), (&kept[..], 3));
+        assert_eq!(after.points, before.points);
+        assert_eq!(total_d(&after), total_d(&before));
+        let u = face.into_iter().min().unwrap() as u8;
+        let [v, w] = [new[1].numbers[2], new[1].numbers[3]];
+        let (a, b) = (a as u8, b as u8);
+        let expected = [[a, b, u, v], [a, b, v, w], [a, b, w, u]];
+        assert_eq!(
+            new.iter().map(|row| row.numbers).collect::<Vec<_>>(),
+            expected
+        );
+        assert!(new.iter().all(|row| row.region == gone[0].region));
+        let row_of_a = gone.iter().find(|row| row.numbers.contains(&a)).unwrap();
+        let even = |row: &Row| tetrahedra(&patch(&[], &[row.numbers], 0));
+        let arranged = Row {
+            numbers: [a, u, v, w],
+            region: 0,
+        };
+        assert_eq!(even(row_of_a), even(&arranged));
+    }
+}
+
+#[test]
+fn answer_18_stands_before_14_and_14_before_15() {
+    let points = vec![[0; 3]; 64];
+    let two = [[0, 2, 3, 4], [0, 2, 4, 3]];
+    let one_apex = filled(patch(&points, &two, 0), 60, 7);
+    let three = [[0, 2, 3, 4], [1, 2, 4, 3], [0, 1, 3, 6]];
+    let mut used = filled(patch(&points, &three, 0), 60, 7);
+    assert_eq!(flipped(&one_apex.to_bytes(), [2, 3, 4]).0, 18);
+    assert_eq!(flipped(&used.to_bytes(), [2, 3, 4]).0, 14);
+    used.rows.pop();
+    assert_eq!(flipped(&used.to_bytes(), [2, 3, 4]).0, 15);
+}

@@ -1,0 +1,78 @@
+//! What a call may write: a refusal nothing, answer 0 a block that keeps what has to be kept.
+
+use compare::gen::cases;
+use compare::model::mesh::mesh_rule;
+use compare::model::removal::total_d;
+use compare::model::{open, run, summary, Call, Outcome, Patch};
+
+fn came_with(call: &Call) -> Outcome {
+    match call.clone() {
+        Call::Seal { out, .. }
+        | Call::Remove { out, .. }
+        | Call::Flip32 { out, .. }
+        | Call::Flip23 { out, .. } => Outcome::Bytes(0, out),
+        Call::Summary { out, .. } => Outcome::Numbers(0, out),
+        Call::Page { row, .. } => Outcome::Page(0, row.into_iter().map(f64::to_bits).collect()),
+        Call::Open { .. } | Call::Printout { .. } => Outcome::Answer(0),
+    }
+}
+
+#[test]
+fn a_refusal_leaves_every_element_of_the_output() {
+    for case in cases(12, 4_000) {
+        match (run(&case.call), came_with(&case.call)) {
+            (Outcome::Bytes(number, out), Outcome::Bytes(_, came)) if number != 0 => {
+                assert_eq!(out, came);
+            }
+            (Outcome::Numbers(number, out), Outcome::Numbers(_, came)) if number != 0 => {
+                assert_eq!(out, came);
+            }
+            (Outcome::Page(number, row), Outcome::Page(_, came)) if number != 0 => {
+                assert_eq!(row, came);
+            }
+            (Outcome::Text(text), _) => {
+                assert!(text.starts_with("answer 0\n") || text.lines().count() == 1);
+            }
+            _ => {}
+        }
+    }
+}
+
+/// The rows of the input that the call does not touch.
+fn untouched(call: &Call, before: &Patch) -> Patch {
+    let touched: Vec<u8> = match call {
+        Call::Remove { ends, .. } | Call::Flip32 { ends, .. } => ends.map(|n| n as u8).to_vec(),
+        Call::Flip23 { face, .. } => face.map(|n| n as u8).to_vec(),
+        _ => unreachable!("calls that write a block"),
+    };
+    let mut kept = before.clone();
+    kept.rows.retain(|row| !row.holds(&touched));
+    kept
+}
+
+#[test]
+fn a_written_block_keeps_points_kept_rows_mesh_rule_and_total_d() {
+    for case in cases(13, 4_000) {
+        let block = match &case.call {
+            Call::Remove { block, .. }
+            | Call::Flip32 { block, .. }
+            | Call::Flip23 { block, .. } => block,
+            _ => continue,
+        };
+        let Outcome::Bytes(0, out) = run(&case.call) else {
+            continue;
+        };
+        let (before, after) = (open(block).unwrap(), open(&out).unwrap());
+        let kept = untouched(&case.call, &before);
+        assert_eq!(after.points, before.points);
+        assert_eq!(after.rows[..kept.rows.len()], kept.rows[..]);
+        assert!(mesh_rule(&after.rows, after.points.len()));
+        assert_eq!(total_d(&after), total_d(&before));
+        assert_eq!(after.to_bytes()[..], out[..]);
+        let counts = summary(&out).unwrap();
+        assert_eq!(
+            counts.upright + counts.flat + counts.inverted,
+            after.rows.len()
+        );
+    }
+}

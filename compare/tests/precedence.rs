@@ -1,0 +1,125 @@
+//! "Numbered answers, tested from the top": of two that hold at once, the upper one is given.
+
+mod common;
+
+use common::*;
+use compare::model::block::with_sums;
+use compare::model::{answer, flip_23, flip_32, open, seal, Patch};
+
+/// One way to spoil the fields of block A for each of the answers 3 to 8.
+fn spoil(fields: &mut [u8; 508], number: u32) {
+    match number {
+        answer::VERSION => fields[0] = 2,
+        answer::COUNT => fields[2] = 61,
+        answer::NOT_ZERO => fields[15] = 1,
+        answer::COORDINATE => fields[16] = 129,
+        answer::ROW => fields[208] = fields[209],
+        answer::FACE_TWICE => {
+            let third: [u8; 4] = [0, 1, 4, 2];
+            fields[213..217].copy_from_slice(&third);
+        }
+        _ => unreachable!("3 to 8"),
+    }
+}
+
+#[test]
+fn of_two_faults_in_a_block_the_smaller_number_wins() {
+    for one in 3..=8 {
+        for other in one..=8 {
+            let mut fields = block_a().to_fields();
+            spoil(&mut fields, other);
+            spoil(&mut fields, one);
+            let mut out = UNTOUCHED;
+            assert_eq!(seal(&fields, &mut out), one, "{one} and {other}");
+            assert_eq!(open(&with_sums(&fields)), Err(one));
+            let mut block = with_sums(&fields);
+            block[510] ^= 1;
+            assert_eq!(open(&block), Err(answer::SUM));
+        }
+    }
+}
+
+#[test]
+fn a_bad_block_comes_before_a_bad_edge_or_face() {
+    let mut fields = block_a().to_fields();
+    spoil(&mut fields, answer::FACE_TWICE);
+    let block = with_sums(&fields);
+    let mut out = UNTOUCHED;
+    let removal = compare::model::remove(&block, 9, 9, &mut out);
+    assert_eq!(removal.err(), Some(answer::FACE_TWICE));
+    assert_eq!(flip_32(&block, 9, 9, &mut out), answer::FACE_TWICE);
+    assert_eq!(flip_23(&block, [9, 9, 9], &mut out), answer::FACE_TWICE);
+}
+
+/// 64 points and rows (0,1,v,w) for these links.
+fn linked(links: &[(u8, u8)]) -> Patch {
+    let points: Vec<[u8; 3]> = (0..64).map(|n| [n, n / 2, 128 - n]).collect();
+    let rows: Vec<[u8; 4]> = links.iter().map(|(v, w)| [0, 1, *v, *w]).collect();
+    patch(&points, &rows, 0)
+}
+
+fn circle(from: u8, m: u8) -> Vec<(u8, u8)> {
+    (0..m)
+        .map(|step| (from + step, from + (step + 1) % m))
+        .collect()
+}
+
+#[test]
+fn an_open_chain_comes_before_more_than_one_circle() {
+    let two = [circle(2, 3), circle(5, 4)].concat();
+    assert_eq!(remove_answer(&linked(&two), 0, 1), answer::CIRCLES);
+    let with_chain = [two, vec![(20, 21)]].concat();
+    assert_eq!(remove_answer(&linked(&with_chain), 0, 1), answer::OPEN);
+    let beside = [circle(2, 3), vec![(20, 21)]].concat();
+    assert_eq!(remove_answer(&linked(&beside), 0, 1), answer::OPEN);
+}
+
+#[test]
+fn more_than_one_circle_comes_before_a_wrong_length() {
+    let short = [circle(2, 2), circle(4, 2)].concat();
+    assert_eq!(remove_answer(&linked(&short), 0, 1), answer::CIRCLES);
+    let long = [circle(2, 11), circle(20, 12)].concat();
+    assert_eq!(remove_answer(&linked(&long), 0, 1), answer::CIRCLES);
+}
+
+#[test]
+fn a_wrong_length_comes_before_room() {
+    let full = filled(linked(&circle(2, 11)), 60, 13);
+    assert_eq!(remove_answer(&full, 0, 1), answer::RING_LENGTH);
+    assert_eq!(
+        remove_answer(&linked(&circle(2, 2)), 0, 1),
+        answer::RING_LENGTH
+    );
+    assert_eq!(
+        remove_answer(&linked(&circle(2, 60)), 0, 1),
+        answer::RING_LENGTH
+    );
+}
+
+#[test]
+fn not_admissible_comes_before_none_better() {
+    let mut lower = block_a();
+    lower.points[0] = [4, 4, 7];
+    lower.points.push([1, 2, 3]);
+    assert_eq!(remove_answer(&lower, 0, 1), answer::NONE_BETTER);
+    let mut row = lower.rows[0];
+    row.numbers = [5, 2, 4, 3];
+    lower.rows.push(row);
+    assert_eq!(remove_answer(&lower, 0, 1), answer::NOT_ADMISSIBLE);
+}
+
+#[test]
+fn numbers_are_taken_whole() {
+    for wide in [1usize << 8, 1 << 16, 1 << 32, 1 << 63] {
+        assert_eq!(remove_answer(&block_a(), wide, 1), answer::BAD_NUMBER);
+        assert_eq!(remove_answer(&block_a(), 0, wide + 1), answer::BAD_NUMBER);
+        let after = block_a_after().to_bytes();
+        let mut out = UNTOUCHED;
+        let face = [2, 3, wide + 4];
+        assert_eq!(flip_23(&after, face, &mut out), answer::BAD_NUMBER);
+        assert_eq!(
+            flip_32(&block_a().to_bytes(), wide, 1, &mut out),
+            answer::BAD_NUMBER
+        );
+    }
+}

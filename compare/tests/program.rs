@@ -1,0 +1,93 @@
+//! The printout, byte for byte.
+
+mod common;
+
+use common::*;
+use compare::gen::cases;
+use compare::model::limits::INPUT_BYTES;
+use compare::model::printout::summary_line;
+use compare::model::{printout, summary, Call, Patch, Summary};
+
+const BLOCK_A: &str = "\
+answer 0
+before 3 0 0 584 1
+after 2 0 0 782 1
+ring 2 3 4
+row 0 2 3 4 7
+row 2 3 4 1 7
+";
+
+fn input(patch: &Patch, a: u8, b: u8) -> Vec<u8> {
+    [&patch.to_bytes()[..], &[a, b]].concat()
+}
+
+#[test]
+fn block_a_prints_document_01s_lines() {
+    assert_eq!(printout(&input(&block_a(), 0, 1)), BLOCK_A);
+    assert_eq!(printout(&input(&block_a(), 1, 0)), BLOCK_A);
+}
+
+#[test]
+fn a_refusal_prints_one_line() {
+    assert_eq!(printout(&input(&block_a(), 0, 0)), "answer 9\n");
+    assert_eq!(printout(&input(&block_a(), 0, 255)), "answer 9\n");
+    assert_eq!(printout(&input(&block_a(), 2, 3)), "answer 11\n");
+    let mut wrong_sum = input(&block_a(), 0, 1);
+    wrong_sum[511] ^= 1;
+    assert_eq!(printout(&wrong_sum), "answer 2\n");
+}
+
+#[test]
+fn every_other_length_prints_answer_1() {
+    let mut bytes = input(&block_a(), 0, 1);
+    bytes.resize(600, 0);
+    for length in (0..=600).filter(|length| *length != INPUT_BYTES) {
+        assert_eq!(printout(&bytes[..length]), "answer 1\n");
+    }
+}
+
+#[test]
+fn marks_are_printed_as_a_dash() {
+    let line = |patch: &Patch| summary_line("before", Summary::of(patch));
+    assert_eq!(line(&patch(&[], &[], 0)), "before 0 0 0 - -\n");
+    let mut inverted = block_a();
+    for row in &mut inverted.rows {
+        row.numbers.swap(0, 1);
+    }
+    assert_eq!(line(&inverted), "before 0 0 3 0 -\n");
+    let mut flat = block_a();
+    flat.points = vec![[5, 5, 5]; 5];
+    assert_eq!(line(&flat), "before 0 3 0 0 -\n");
+}
+
+#[test]
+fn a_removal_without_upright_rows_prints_a_dash() {
+    let mut upside_down = block_a();
+    for row in &mut upside_down.rows {
+        row.numbers.swap(0, 1);
+    }
+    let text = printout(&input(&upside_down, 0, 1));
+    let start = "answer 0\nbefore 0 0 3 0 -\nafter 0 0 2 0 -\nring 2 4 3\n";
+    assert!(text.starts_with(start), "{text}");
+}
+
+#[test]
+fn every_printout_has_its_form() {
+    let printed = cases(6, 6_000).filter_map(|case| match case.call {
+        Call::Printout { input } => Some((printout(&input), input)),
+        _ => None,
+    });
+    for (text, input) in printed {
+        assert!(text.ends_with('\n') && !text.contains("  ") && !text.contains(" \n"));
+        let words: Vec<&str> = text.lines().map(|l| l.split(' ').next().unwrap()).collect();
+        match text.strip_prefix("answer 0\n") {
+            None => assert_eq!(words, ["answer"]),
+            Some(rest) => {
+                assert_eq!(words[..4], ["answer", "before", "after", "ring"]);
+                assert!(words[4..].iter().all(|word| *word == "row"));
+                let before = summary_line("before", summary(&input[..512]).unwrap());
+                assert!(rest.starts_with(&before));
+            }
+        }
+    }
+}

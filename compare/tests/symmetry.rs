@@ -1,0 +1,112 @@
+//! What does not matter: the order of the ends, and of the rows and their numbers up to what
+//! document 01 says of kept rows and the region.
+
+mod common;
+
+use common::*;
+use compare::gen::{cases, Random};
+use compare::model::removal::removal;
+use compare::model::{flip_32, run, Call, Outcome, Row, Summary};
+
+fn swapped(call: &Call) -> Option<Call> {
+    let mut other = call.clone();
+    match &mut other {
+        Call::Remove { ends, .. } | Call::Page { ends, .. } | Call::Flip32 { ends, .. } => {
+            ends.reverse();
+        }
+        Call::Printout { input } => {
+            let last = input.len().checked_sub(1)?;
+            input.swap(last.checked_sub(1)?, last);
+        }
+        _ => return None,
+    }
+    Some(other)
+}
+
+#[test]
+fn either_order_of_the_ends_has_the_same_outcome() {
+    let right_length = |call: &Call| match call {
+        Call::Printout { input } => input.len() == 514,
+        _ => true,
+    };
+    for case in cases(2, 2_000).filter(|case| right_length(&case.call)) {
+        if let Some(other) = swapped(&case.call) {
+            assert_eq!(run(&case.call), run(&other));
+        }
+    }
+}
+
+#[test]
+fn row_order_and_even_rearrangement_change_only_kept_rows_and_region() {
+    let mut random = Random::of_case(3, 0);
+    for (patch, [a, b]) in edges(3, 2_500) {
+        let other = rearranged(&patch, &mut random);
+        assert_eq!(Summary::of(&patch), Summary::of(&other));
+        let kept: Vec<Row> = other
+            .rows
+            .iter()
+            .copied()
+            .filter(|row| !holds(row, a, b))
+            .collect();
+        let first = other.rows.iter().find(|row| holds(row, a, b)).copied();
+        match (removal(patch, a, b), removal(other, a, b)) {
+            (Ok(one), Ok(two)) => {
+                let numbers = |rows: &[Row]| rows.iter().map(|r| r.numbers).collect::<Vec<_>>();
+                assert_eq!(one.ring, two.ring);
+                assert_eq!(numbers(&one.new_rows), numbers(&two.new_rows));
+                assert_eq!(one.page, two.page);
+                assert_eq!(Summary::of(&one.after), Summary::of(&two.after));
+                assert_eq!(two.after.rows[..kept.len()], kept[..]);
+                let region = first.unwrap().region;
+                assert!(two.new_rows.iter().all(|row| row.region == region));
+            }
+            (one, two) => assert_eq!(one.err(), two.err()),
+        }
+    }
+}
+
+fn holds(row: &Row, a: usize, b: usize) -> bool {
+    let held = row.numbers.map(usize::from);
+    held.contains(&a) && held.contains(&b)
+}
+
+#[test]
+fn an_odd_rearrangement_matters() {
+    let mut odd = block_a();
+    odd.rows[0].numbers.swap(0, 1);
+    assert_eq!(remove_answer(&odd, 0, 1), 8);
+    odd.rows.truncate(1);
+    assert_eq!(remove_answer(&odd, 0, 1), 11);
+}
+
+#[test]
+fn the_3_2_flip_writes_what_the_removal_of_a_ring_of_3_writes() {
+    let mut agreed = 0;
+    for (patch, [a, b]) in edges(4, 3_000) {
+        let block = patch.to_bytes();
+        if let Ok(removal) = removal(patch, a, b) {
+            let mut out = UNTOUCHED;
+            let number = flip_32(&block, a, b, &mut out);
+            match removal.ring.len() {
+                3 => {
+                    assert_eq!((number, out), (0, removal.after.to_bytes()));
+                    agreed += 1;
+                }
+                _ => assert_eq!((number, out), (13, UNTOUCHED)),
+            }
+        }
+    }
+    assert!(agreed > 20);
+}
+
+#[test]
+fn the_page_row_is_plus_zero_for_flat() {
+    let pages = cases(5, 6_000).filter(|case| matches!(case.call, Call::Page { .. }));
+    let pages = pages.filter_map(|case| match run(&case.call) {
+        Outcome::Page(0, row) => Some(row),
+        _ => None,
+    });
+    let bits: Vec<u64> = pages.flatten().collect();
+    assert!(bits.contains(&0.0f64.to_bits()));
+    assert!(!bits.contains(&(-0.0f64).to_bits()));
+}

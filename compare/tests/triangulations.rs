@@ -1,0 +1,98 @@
+//! The list of triangulations, and what the carried-out one has to be among them.
+
+mod common;
+
+use common::*;
+use compare::model::pieces::{
+    piece_admissible, ring_admissible, Pieces, TriangleWorsts, UsedFaces,
+};
+use compare::model::removal::{removable_site, total_d};
+use compare::model::triangulations::{diagonals, new_rows, ways};
+use std::collections::{HashMap, HashSet};
+
+#[test]
+fn there_are_as_many_as_catalan_says() {
+    let catalan = [1, 2, 5, 14, 42, 132, 429, 1430];
+    for (m, count) in (3..=10).zip(catalan) {
+        let different: HashSet<_> = ways(1, m).iter().collect();
+        assert_eq!((ways(1, m).len(), different.len()), (count, count));
+    }
+}
+
+#[test]
+fn each_has_m_minus_2_triangles_every_side_once_and_every_diagonal_twice() {
+    for m in 3..=10 {
+        for way in ways(1, m) {
+            assert_eq!(way.len(), m - 2);
+            let mut uses: HashMap<(usize, usize), usize> = HashMap::new();
+            for t in way {
+                assert!(t.i < t.k && t.k < t.j);
+                for side in [(t.i, t.k), (t.k, t.j), (t.i, t.j)] {
+                    *uses.entry(side).or_default() += 1;
+                }
+            }
+            for ((from, to), count) in &uses {
+                let ring_side = *to == from + 1 || (*from, *to) == (1, m);
+                assert_eq!(*count, if ring_side { 1 } else { 2 });
+            }
+            let inner: HashSet<_> = diagonals(1, m, way).into_iter().collect();
+            assert_eq!((inner.len(), uses.len()), (m - 3, m + m - 3));
+        }
+    }
+}
+
+#[test]
+fn total_d_is_kept_by_every_triangulation() {
+    for (patch, [a, b]) in edges(18, 1_500) {
+        let Ok(site) = removable_site(&patch, a, b) else {
+            continue;
+        };
+        for way in ways(1, site.m()).iter().step_by(7) {
+            let after = site.patch_after(&patch, &new_rows(&site, way));
+            assert_eq!(total_d(&after), total_d(&patch));
+        }
+    }
+}
+
+#[test]
+fn admissible_by_the_whole_table_is_admissible_by_faces() {
+    let (mut yes, mut no) = (0, 0);
+    for (patch, [a, b]) in edges(19, 2_000) {
+        let Ok(site) = removable_site(&patch, a, b) else {
+            continue;
+        };
+        let used = UsedFaces::of(&site.kept);
+        for way in ways(1, site.m()) {
+            let by_table = ring_admissible(&patch, &site, way);
+            assert_eq!(by_table, piece_admissible(&site, &used, 1, site.m(), way));
+            match by_table {
+                true => yes += 1,
+                false => no += 1,
+            }
+        }
+    }
+    assert!(yes > 1_000 && no > 1_000);
+}
+
+#[test]
+fn the_chosen_one_is_admissible_and_no_other_has_a_better_worst() {
+    for (patch, [a, b]) in edges(20, 3_000) {
+        let Ok(site) = removable_site(&patch, a, b) else {
+            continue;
+        };
+        let m = site.m();
+        let worsts = TriangleWorsts::of(&patch, &site);
+        let pieces = Pieces::of(&patch, &site);
+        let admissible = ways(1, m)
+            .iter()
+            .filter(|way| ring_admissible(&patch, &site, way));
+        let best = admissible.map(|way| worsts.of_way(way)).max();
+        assert_eq!(pieces.best(1, m).map(|best| best.worst), best);
+        if let Some(best) = best {
+            let chosen = pieces.chosen(1, m);
+            assert!(ring_admissible(&patch, &site, &chosen));
+            assert_eq!(worsts.of_way(&chosen), best);
+            assert!(ways(1, m).contains(&chosen));
+        }
+    }
+}
