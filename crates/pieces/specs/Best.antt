@@ -1,5 +1,5 @@
 -- Document 01, "Ring and replacement": best worst, apex, the chosen triangulation, and the table kept with the ring.
-use Prim.Native.Nat.{ℕ, zero, suc, _+_, _-_, _*_, _≤_}
+use Prim.Native.Nat.{ℕ, zero, suc, _+_, _-_, _*_, _≤_, _<_}
 use mathlib.Core.Bool.{Bool, true, false, _&&_}
 use mathlib.Core.List.{List, map}
 use mathlib.Core.Option.{Option, none, some, Option·getD}
@@ -99,4 +99,5 @@ pub record Keeps (site : Site) (table : Pieces) : Type 0 where
   pub length : table .m ≡ m site
   pub ring : table .ring ≡ ringWith (site .ring) .v
   pub best : (i j : ℕ) → 1 ≤ i → i + 2 ≤ j → j ≤ m site → T (sameBest (keptBest table i j) (bestWorst site i j))
+  pub fractions : (i j : ℕ) → 1 ≤ i → i + 2 ≤ j → j ≤ m site → (q : Quality) → keptBest table i j ≡ some q → 0 < q .den
   pub apexes : (i j : ℕ) → 1 ≤ i → i + 2 ≤ j → j ≤ m site → keptApex table i j ≡ apex site i j

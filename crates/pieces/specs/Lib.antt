@@ -1,3 +1,4 @@
 pub mod Triangulation
 pub mod Admissible
 pub mod Best
+pub mod Candidates

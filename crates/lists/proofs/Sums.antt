@@ -1,0 +1,68 @@
+-- A list with no repetition whose elements all stand in another list of the same length has the same sum: one element
+-- after another is taken out of the other list.
+use Prim.Native.Nat.{ℕ, zero, suc, _≤_}
+use mathlib.Core.List.{List, [], _∷_, map, foldr, List·Memᴰ, List·Memᴰ·head, List·Memᴰ·tail, List·Memᴰ·not-nil, List·Memᴰ·cases-cons}
+use mathlib.Core.Logic.{_⊎_, inl, inr}
+use mathlib.Core.Path.{_≡_, refl, sym, ap, _∙_}
+use native.Mathlib.Omega.{arith}
+use lib.IntN.{ℤ, pos, _+ℤ_, +ℤ-assoc, +ℤ-comm}
+use lib.ListN.{length}
+
+module _ {A : Type 0} where
+  -- the list without the element that stands at a place
+  unfoldable pub without : {x : A} (xs : List A) → List·Memᴰ x xs → List A
+  without (y ∷ ys) (List·Memᴰ·head e) = ys
+  without (y ∷ ys) (List·Memᴰ·tail m) = y ∷ without ys m
+
+  without-length : {x : A} (xs : List A) (m : List·Memᴰ x xs) → length xs ≡ suc (length (without xs m))
+  unfolding without
+  without-length (y ∷ ys) (List·Memᴰ·head e) = refl
+  without-length (y ∷ ys) (List·Memᴰ·tail m) = ap suc (without-length ys m)
+
+  -- another element still stands there
+  without-keeps : {x z : A} (xs : List A) (m : List·Memᴰ x xs) → (z ≡ x → ⊥) → List·Memᴰ z xs → List·Memᴰ z (without xs m)
+  unfolding without
+  without-keeps {x} {z} (y ∷ ys) (List·Memᴰ·head e) ne n = go (List·Memᴰ·cases-cons n)
+    where
+      go : (z ≡ y) ⊎ List·Memᴰ z ys → List·Memᴰ z ys
+      go (inl q) = absurd (ne (q ∙ sym e))
+      go (inr k) = k
+  without-keeps {x} {z} (y ∷ ys) (List·Memᴰ·tail m) ne n = go (List·Memᴰ·cases-cons n) (without-keeps ys m ne)
+    where
+      go : (z ≡ y) ⊎ List·Memᴰ z ys → (List·Memᴰ z ys → List·Memᴰ z (without ys m)) → List·Memᴰ z (y ∷ without ys m)
+      go (inl q) f = List·Memᴰ·head q
+      go (inr k) f = List·Memᴰ·tail (f k)
+
+  -- no element stands twice
+  pub data Single : List A → Type 0 where
+    none : Single []
+    one-more : {x : A} {xs : List A} → (List·Memᴰ x xs → ⊥) → Single xs → Single (x ∷ xs)
+
+  module _ (f : A → ℤ) where
+    -- the sum of f over a list
+    abbrev pub sumOver : List A → ℤ
+    sumOver xs = foldr _+ℤ_ (pos 0) (map f xs)
+
+    sum-without : {x : A} (xs : List A) (m : List·Memᴰ x xs) → sumOver xs ≡ f x +ℤ sumOver (without xs m)
+    unfolding without
+    sum-without {x} (y ∷ ys) (List·Memᴰ·head e) = ap (λ z. f z +ℤ sumOver ys) (sym e)
+    sum-without {x} (y ∷ ys) (List·Memᴰ·tail m) =
+        ap (λ t. f y +ℤ t) (sum-without ys m)
+        ∙ (sym (+ℤ-assoc (f y) (f x) (sumOver (without ys m)))
+        ∙ (ap (λ t. t +ℤ sumOver (without ys m)) (+ℤ-comm (f y) (f x))
+        ∙ +ℤ-assoc (f x) (f y) (sumOver (without ys m))))
+
+    pub sum-same : (xs ys : List A) → length xs ≤ length ys → Single ys → ((y : A) → List·Memᴰ y ys → List·Memᴰ y xs)
+        → sumOver xs ≡ sumOver ys
+    sum-same [] [] h s all = refl
+    sum-same (x ∷ xs) [] h s all = absurd (omega arith)
+    sum-same xs (y ∷ ys) h (one-more fresh s) all =
+        let m = all y (List·Memᴰ·head refl) in
+        let l = without-length xs m in
+        sum-without xs m
+        ∙ ap (λ t. f y +ℤ t)
+        (sum-same (without xs m) ys (omega arith) s
+        (λ z k. without-keeps xs m (λ e. fresh (subst-mem e k)) (all z (List·Memᴰ·tail k))))
+      where
+        subst-mem : {z : A} → z ≡ y → List·Memᴰ z ys → List·Memᴰ y ys
+        subst-mem e k = rw e at k

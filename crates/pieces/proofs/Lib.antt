@@ -1,0 +1,17 @@
+pub mod Counting
+pub mod Lists
+pub mod Faces
+pub mod Links
+pub mod Trees
+pub mod Once
+pub mod Sound
+pub mod Admissible
+pub mod Triangulation
+pub mod Ways
+pub mod Split
+pub mod Worsts
+pub mod Apex
+pub mod Chosen
+pub mod Leading
+pub mod Recurrence
+pub mod Total
