@@ -1,2 +1,15 @@
+pub mod Formulas
+pub mod Identities
+pub mod AtMostOne
+pub mod Bounds
+pub mod Machine
+pub mod Computed
+pub mod Points
+pub mod Lists
 pub mod Order
-pub mod Fractions
+pub mod Sides
+pub mod Scores
+pub mod Proper
+pub mod Badnesses
+pub mod Octaves
+pub mod Floats

@@ -1,3 +1,4 @@
 pub mod Measure
+pub mod Limits
 pub mod Marks
 pub mod Page

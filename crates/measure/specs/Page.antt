@@ -1,5 +1,5 @@
 -- Document 01, "Quality": what the page shows.
-use Prim.Native.Nat.{ℕ}
+use Prim.Native.Nat.{ℕ, _<_, _^_}
 use mathlib.Core.Bool.{false}
 use lib.IntN.{pos}
 use lib.Ieee as Ieee
@@ -9,6 +9,11 @@ use Rattle.measure.specs.declared.Quality.{Quality}
 use Rattle.measure.specs.declared.Shown.{Shown}
 use Rattle.measure.specs.declared.Shown.the-variants as Shows
 use Rattle.measure.specs.declared.PageRow.{PageRow}
+
+-- both whole numbers are below 2^53, so f64 holds them
+pub record CarriesOver (q : Quality) : Type 0 where
+  pub num-small : q .num < 2 ^ 53
+  pub den-small : q .den < 2 ^ 53
 
 -- the single quotient of the two whole numbers, both carried over to f64
 unfoldable pub quotient : ℕ → ℕ → Float

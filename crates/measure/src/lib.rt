@@ -1,4 +1,14 @@
 // How good a tetrahedron is, exactly and as the page shows it.
+mod compared;
+mod marks;
+mod page;
+mod volumes;
+
+pub use marks::octave_mark;
+pub use marks::octave_of;
+pub use volumes::point_in;
+pub use volumes::spread;
+pub use volumes::volume;
 
 // A place on the grid.
 pub struct Point {

@@ -2,12 +2,13 @@
 -- side, by the five-point identity at each triangle; so it is the same for every triangulation of the piece.
 use Prim.Native.Nat.{ℕ, _+_}
 use mathlib.Core.List.{List, [], _∷_, _++_, flatMap, append-assoc}
-use mathlib.Core.Path.{_≡_, refl, sym, ap, ap₂, _∙_}
+use mathlib.Core.Path.{_≡_, refl, sym, ap, _∙_}
 use native.Mathlib.Nat.{add-assoc}
-use lib.IntN.{ℤ, pos, _+ℤ_, +ℤ-idl, +ℤ-assoc}
+use lib.IntN.{ℤ, pos, negℤ, _+ℤ_, +ℤ-idl, +ℤ-assoc, +ℤ-invr}
 use Rattle.algebra.proofs.Normal.{var, con, _:+_, norm, same, _⊹_, ring-from}
 use Rattle.measure.specs.declared.Point.{Point}
 use Rattle.measure.specs.Measure.{D}
+use Rattle.measure.proofs.Identities.{D-kept, D-exchanged, pqsr, five-points}
 use Rattle.mesh.specs.declared.Row.{Row}
 use Rattle.mesh.specs.Mesh.{place, rowD, totalD}
 use Rattle.ring.specs.Ring.{Site}
@@ -38,6 +39,10 @@ unfolding totalD
 two-and points t u rows others =
     ap (λ z. rowD points t +ℤ (rowD points u +ℤ z)) (total-append points rows others)
     ∙ sym (+ℤ-assoc (rowD points t) (rowD points u) (totalD points rows +ℤ totalD points others))
+
+-- D of the row (a,b,x,y), and of the same the other way round
+turned-over : (a b x y : Point) → D a b x y +ℤ D a b y x ≡ pos 0
+turned-over a b x y = ap (λ t. D a b x y +ℤ t) (pqsr D-kept negℤ D-exchanged a b x y) ∙ +ℤ-invr (D a b x y)
 
 module _ (site : Site) where
   -- D of the row (a,b,x,y)
@@ -84,32 +89,28 @@ module _ (site : Site) where
       ⊹ same (var 1 :+ var 5) (var 3) g ⊹ same (var 2 :+ var 6) (var 4) h)
       refl
 
-  module _
-      (none : (a b x y : Point) → D a b x y +ℤ D a b y x ≡ pos 0)
-      (five : (a b x y z : Point) → (D a b x y +ℤ D a b y z) +ℤ D a b z x ≡ D a x y z +ℤ D x y z b)
-    where
-      -- the five-point identity, the closing side on the left
-      triangle : (i k j : ℕ) → twoD i k j +ℤ linkD (v site i) (v site j) ≡ linkD (v site i) (v site k) +ℤ linkD (v site k) (v site j)
-      unfolding norm
-      triangle i k j =
-          let at : ℕ → Point = λ x. place (site .points) (v site x) in
-          let a = place (site .points) (site .a) in
-          let b = place (site .points) (site .b) in
-          ring-from
-          (D a b (at i) (at k) ∷ D a b (at k) (at j) ∷ D a b (at j) (at i) ∷ D a b (at i) (at j) ∷ D a (at i) (at k) (at j) ∷ D (at i) (at k) (at j) b ∷ [])
-          (var 4 :+ var 5 :+ var 3) (var 0 :+ var 1)
-          (same (var 4 :+ var 5) (var 0 :+ var 1 :+ var 2) (sym (five a b (at i) (at k) (at j)))
-          ⊹ same (var 2 :+ var 3) (con (pos 0)) (none a b (at j) (at i)))
-          refl
+  -- the five-point identity, the closing side on the left
+  triangle : (i k j : ℕ) → twoD i k j +ℤ linkD (v site i) (v site j) ≡ linkD (v site i) (v site k) +ℤ linkD (v site k) (v site j)
+  unfolding norm
+  triangle i k j =
+      let at : ℕ → Point = λ x. place (site .points) (v site x) in
+      let a = place (site .points) (site .a) in
+      let b = place (site .points) (site .b) in
+      ring-from
+      (D a b (at i) (at k) ∷ D a b (at k) (at j) ∷ D a b (at j) (at i) ∷ D a b (at i) (at j) ∷ D a (at i) (at k) (at j) ∷ D (at i) (at k) (at j) b ∷ [])
+      (var 4 :+ var 5 :+ var 3) (var 0 :+ var 1)
+      (same (var 4 :+ var 5) (var 0 :+ var 1 :+ var 2) (sym (five-points a b (at i) (at k) (at j)))
+      ⊹ same (var 2 :+ var 3) (con (pos 0)) (turned-over a b (at j) (at i)))
+      refl
 
-      pub total-piece : (i : ℕ) (t : Tri)
-          → totalD (site .points) (newRows site i t) +ℤ linkD (v site i) (v site (i + span t)) ≡ chainD i t
-      unfolding chainD span newRows triangles flatMap totalD
-      total-piece i side = +ℤ-idl (linkD (v site i) (v site (i + 1)))
-      total-piece i (cut l r) =
-          ap (λ (j : ℕ). totalD (site .points) (newRows site i (cut l r)) +ℤ linkD (v site i) (v site j)) (sym (add-assoc i (span l) (span r)))
-          ∙ step (totalD (site .points) (newRows site i (cut l r))) (totalD (site .points) (newRows site i l)) (totalD (site .points) (newRows site (i + span l) r))
-          (chainD i l) (chainD (i + span l) r)
-          (linkD (v site i) (v site (i + span l))) (linkD (v site (i + span l)) (v site (i + span l + span r))) (linkD (v site i) (v site (i + span l + span r)))
-          (twoD i (i + span l) (i + span l + span r))
-          (triangle i (i + span l) (i + span l + span r)) (total-cut i l r) (total-piece i l) (total-piece (i + span l) r)
+  pub total-piece : (i : ℕ) (t : Tri)
+      → totalD (site .points) (newRows site i t) +ℤ linkD (v site i) (v site (i + span t)) ≡ chainD i t
+  unfolding chainD span newRows triangles flatMap totalD
+  total-piece i side = +ℤ-idl (linkD (v site i) (v site (i + 1)))
+  total-piece i (cut l r) =
+      ap (λ (j : ℕ). totalD (site .points) (newRows site i (cut l r)) +ℤ linkD (v site i) (v site j)) (sym (add-assoc i (span l) (span r)))
+      ∙ step (totalD (site .points) (newRows site i (cut l r))) (totalD (site .points) (newRows site i l)) (totalD (site .points) (newRows site (i + span l) r))
+      (chainD i l) (chainD (i + span l) r)
+      (linkD (v site i) (v site (i + span l))) (linkD (v site (i + span l)) (v site (i + span l + span r))) (linkD (v site i) (v site (i + span l + span r)))
+      (twoD i (i + span l) (i + span l + span r))
+      (triangle i (i + span l) (i + span l + span r)) (total-cut i l r) (total-piece i l) (total-piece (i + span l) r)

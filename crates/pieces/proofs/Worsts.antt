@@ -13,7 +13,7 @@ use Rattle.measure.specs.declared.Quality.{Quality}
 use Rattle.measure.specs.declared.Point.{Point}
 use Rattle.measure.specs.Measure.{worst}
 use Rattle.measure.proofs.Order.{Fraction, Fractions, _⊑_, at-most-trans, Worst, worst-is, best-is, best-of}
-use Rattle.measure.proofs.Fractions.{zero-quality-fraction, quality-fraction}
+use Rattle.measure.proofs.Proper.{zero-quality-fraction, quality-fraction}
 use Rattle.mesh.specs.declared.Row.{Row}
 use Rattle.mesh.specs.Mesh.{place, rowQuality}
 use Rattle.ring.specs.Ring.{Site}

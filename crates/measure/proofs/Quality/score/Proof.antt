@@ -1,0 +1,32 @@
+-- `Quality::score` is `score`, kind by kind.
+use borrow.Author.Needs.{needs}
+use Rattle.measure.specs.Marks.{scoreOf}
+use Rattle.measure.proofs.Quality.score.Statement.{statement}
+use Rattle.measure.proofs.Quality.score.Tie as tie
+
+enum-told : tie.Need-enum-told
+enum-told c = search needs
+
+score-of-requires : tie.Need-score-of-requires
+score-of-requires c κs = search needs
+
+enum-told-2 : tie.Need-enum-told-2
+enum-told-2 c = search needs
+
+enum-told-3 : tie.Need-enum-told-3
+enum-told-3 c = search needs
+
+returns : tie.Need-returns
+unfolding scoreOf
+returns c = rw (c .before .enum-told .given .1, c .score-of .ensures)
+
+returns-2 : tie.Need-returns-2
+unfolding scoreOf
+returns-2 c = rw (c .enum-told2 .given .1)
+
+returns-3 : tie.Need-returns-3
+unfolding scoreOf
+returns-3 c = rw (c .enum-told3 .given .1)
+
+pub score-spec : {M : Type 1} → statement M
+score-spec = tie.close (tie.spec enum-told score-of-requires enum-told-2 enum-told-3 returns returns-2 returns-3)
