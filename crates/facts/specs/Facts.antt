@@ -16,7 +16,7 @@ use Rattle.mesh.specs.Mesh.{rowD, rowS}
 use Rattle.block.specs.Layout.{Patch, blockBytes, bodyBytes, fieldsOf, bytesOf}
 use Rattle.ring.specs.Ring.{siteOf}
 use Rattle.pieces.specs.Triangulation.{Tri, side, cut, ways, newRows}
-use Rattle.patch.specs.Summing.{qualities}
+use Rattle.tally.specs.Summing.{qualities}
 use Rattle.patch.specs.Removing.{worstNow, removeAnswer, removeBytes}
 use Rattle.patch.specs.Flipping.{flip23Bytes}
 use Rattle.patch.specs.Printout.{text, printout}

@@ -15,7 +15,7 @@ use Rattle.ring.specs.Ring.{link, next, walk, smallest, ringOf, siteOf, numbers
 use Rattle.pieces.specs.Triangulation.{span, triangles, closingSides, diagonals, waysWithin, twoRows, newRows, tableAfter}
 use Rattle.pieces.specs.Admissible.{admissible, pieceAdmissible}
 use Rattle.pieces.specs.Best.{worstOfWay, ringWays, pieceWays, bestWorst, reaches, apex, chosenWithin}
-use Rattle.patch.specs.Summing.{summaryOf}
+use Rattle.tally.specs.Summing.{summaryOf}
 use Rattle.patch.specs.Removing.{blockTests, worstNow, noWay, noneBetter, patchAfter, totalDiffers, removalTests}
 use Rattle.patch.specs.Removing.{removeAnswer, removeBytes}
 use Rattle.patch.specs.Flipping.{apexOver, pairOf, threeRows, patchAfter23, flip23Tests, flip23Answer, flip23Bytes}

@@ -15,8 +15,8 @@ use Rattle.block.specs.Layout.{blockBytes, byte, fieldsOf}
 use Rattle.ring.specs.Ring.{Site, siteOf}
 use Rattle.pieces.specs.Triangulation.{newRows}
 use Rattle.pieces.specs.Best.{chosen}
-use Rattle.patch.specs.declared.Summary.{Summary}
-use Rattle.patch.specs.Summing.{summaryOf}
+use Rattle.tally.specs.declared.Summary.{Summary}
+use Rattle.tally.specs.Summing.{summaryOf}
 use Rattle.patch.specs.Removing.{removeAnswer, removeBytes}
 
 -- the bytes of a text

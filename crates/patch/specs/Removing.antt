@@ -16,10 +16,10 @@ use Rattle.ring.specs.Ring.{Site, siteOf, m, edgeTests, lengthWrong, ringWith}
 use Rattle.pieces.specs.Triangulation.{ways, tableAfter, rowsAfter}
 use Rattle.pieces.specs.Admissible.{admissible}
 use Rattle.pieces.specs.Best.{worstOfWay, ringWays, chosen}
+use Rattle.tally.specs.Summing.{worstOfPatch}
 use Rattle.patch.specs.declared.Removal.{Removal}
 use Rattle.patch.specs.declared.Removal.the-variants.{Done, Refused}
 use Rattle.patch.specs.declared.Removed.{Removed}
-use Rattle.patch.specs.Summing.{qualities}
 
 -- ---- what each answer is given for
 
@@ -72,10 +72,6 @@ removeAnswer block out e f =
 -- each byte of the output block afterwards
 unfoldable pub removeBytes : List ℕ → List ℕ → ℕ → ℕ → List ℕ
 removeBytes block out e f = written (removeAnswer block out e f) (bytesOf (patchAfter (siteOf (fieldsOf block) e f))) out
-
--- worst is taken over all rows of the patch
-abbrev pub worstOfPatch : Patch → Quality
-worstOfPatch patch = Option·getD (worst (qualities patch)) zeroQuality
 
 -- there is a page row only with answer 0 of a removal; the ring stands beside it
 unfoldable pub removeGives : List ℕ → List ℕ → ℕ → ℕ → Removed

@@ -1,17 +1,7 @@
 // The public calls on a patch block.
-use measure::Octave;
 use measure::PageRow;
-use measure::WorstScore;
 use ring::Ring;
-
-// Counts of upright, flat and inverted rows, the score of the worst row, and the octave.
-pub struct Summary {
-    pub upright: u8,
-    pub flat: u8,
-    pub inverted: u8,
-    pub worst: WorstScore,
-    pub octave: Octave,
-}
+use tally::Summary;
 
 // What summarising a block gives: the summary, or the number of the refusal.
 pub enum Summarised {
