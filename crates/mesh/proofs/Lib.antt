@@ -1,0 +1,12 @@
+pub mod Lists
+pub mod Tables
+pub mod Faces
+pub mod Counted
+pub mod Keys
+pub mod Stored
+pub mod Checked
+pub mod Rule
+pub mod Evenly
+pub mod Places
+pub mod Alike
+pub mod OneWay

@@ -1,0 +1,127 @@
+-- Even rearrangements are a group, and one of them begins with any two numbers of the row. An even rearrangement is the row read at
+-- an even rearrangement of four places, and of those a computed test says all.
+use Prim.Native.Nat.{ℕ, _<_}
+use mathlib.Core.Bool.{Bool, _&&_, _||_}
+use mathlib.Core.List.{map, List·Memᴰ, List·Memᴰ·head, Memᴰ·map}
+use mathlib.Core.Logic.{_⊎_, inl, inr}
+use mathlib.Core.Path.{_≡_, refl, sym, ap, _∙_, subst}
+use native.Mathlib.Omega.{arith}
+use lib.Dec.{T, eqb, eqb→eq}
+use lib.ListN.{getD, List·getD-map}
+use Rattle.lists.specs.Lists.{every, any, firstOr, different, numbersFrom}
+use Rattle.lists.proofs.Tests.{and-l, and-r, and-i, or-e, same-test}
+use Rattle.lists.proofs.Lists.{every-at, any-i, any-e, has-e, numbers-i}
+use Rattle.mesh.specs.declared.Row.{Row}
+use Rattle.mesh.specs.Mesh.{numbers, holds, numbersFit, noRow, Proper}
+use Rattle.mesh.specs.Tetrahedra.{evenly, sameRow, rearranged, arrangedFrom}
+use Rattle.mesh.proofs.Lists.{getD-inside, in-at, map-in, first-found}
+use Rattle.mesh.proofs.Faces.{eq-test}
+use Rattle.mesh.proofs.Rule.{fit-proper}
+use Rattle.mesh.proofs.Evenly.{same-row, even-e, even-i, even-proper}
+
+-- the row whose numbers stand at the places that another row names
+abbrev pick : Row → Row → Row
+pick u σ = record {
+  p = getD (numbers u) (σ .p) 0;
+  q = getD (numbers u) (σ .q) 0;
+  r = getD (numbers u) (σ .r) 0;
+  s = getD (numbers u) (σ .s) 0;
+  region = u .region;
+}
+
+-- four places in order
+abbrev pub inOrder : Row
+inOrder = record { p = 0; q = 1; r = 2; s = 3; region = 0 }
+
+even-places : (t u : Row) → T (rearranged t u) → (σ : Row) × List·Memᴰ σ (evenly inOrder) × (t ≡ pick u σ)
+unfolding evenly
+even-places t u e = map-in (pick u) (evenly inOrder) (even-e t u e)
+
+places-even : (u σ : Row) → List·Memᴰ σ (evenly inOrder) → T (rearranged (pick u σ) u)
+unfolding evenly
+places-even u σ m = even-i (pick u σ) u (Memᴰ·map (pick u) m)
+
+-- reading at places twice
+pick-pick : (u σ τ : Row) → List·Memᴰ τ (evenly inOrder) → pick (pick u σ) τ ≡ pick u (pick σ τ)
+unfolding numbersFit every different any
+pick-pick u σ τ m = rw (at (τ .p) (small .below-p), at (τ .q) (small .below-q), at (τ .r) (small .below-r), at (τ .s) (small .below-s))
+  where
+    small : Proper 4 τ
+    small = even-proper 4 τ inOrder (even-i τ inOrder m) (fit-proper 4 inOrder tt)
+
+    at : (i : ℕ) → i < 4 → getD (numbers (pick u σ)) i 0 ≡ getD (numbers u) (getD (numbers σ) i 0) 0
+    at i h =
+        let read : ℕ → ℕ = λ k. getD (numbers u) k 0 in
+        getD-inside (map read (numbers σ)) i 0 (read 0) h ∙ List·getD-map read (numbers σ) i 0
+
+-- the group
+
+pub even-refl : (u : Row) → T (rearranged u u)
+unfolding evenly
+even-refl u = even-i u u (List·Memᴰ·head refl)
+
+pub even-trans : (t u v : Row) → T (rearranged t u) → T (rearranged u v) → T (rearranged t v)
+unfolding evenly rearranged every any
+even-trans t u v a b =
+    let k = even-places t u a in
+    let l = even-places u v b in
+    let closed = every-at (λ σ. rearranged (pick (l .0) σ) inOrder) (evenly inOrder)
+    (every-at (λ τ. every (λ σ. rearranged (pick τ σ) inOrder) (evenly inOrder)) (evenly inOrder) tt (l .1)) (k .1) in
+    let e : t ≡ pick v (pick (l .0) (k .0)) = k .2 ∙ ap (λ w. pick w (k .0)) (l .2) ∙ pick-pick v (l .0) (k .0) (k .1) in
+    subst (λ w. T (rearranged w v)) (sym e) (places-even v (pick (l .0) (k .0)) (even-e (pick (l .0) (k .0)) inOrder closed))
+
+pub even-sym : (t u : Row) → T (rearranged t u) → T (rearranged u t)
+unfolding evenly every any
+even-sym t u a =
+    let k = even-places t u a in
+    let back = any-e (λ ρ. sameRow (pick (k .0) ρ) inOrder) (evenly inOrder)
+    (every-at (λ σ. any (λ ρ. sameRow (pick σ ρ) inOrder) (evenly inOrder)) (evenly inOrder) tt (k .1)) in
+    let ρ = back .0 in
+    let e : u ≡ pick t ρ = sym (ap (λ w. pick w ρ) (k .2) ∙ pick-pick u (k .0) ρ (back .1) ∙ ap (pick u) (same-row (pick (k .0) ρ) inOrder (back .2))) in
+    subst (λ w. T (rearranged w t)) (sym e) (places-even t ρ (back .1))
+
+-- rows that are one tetrahedron are so with the same rows
+pub even-same : (t u v : Row) → T (rearranged t u) → rearranged v t ≡ rearranged v u
+even-same t u v e =
+    same-test (rearranged v t) (rearranged v u) (λ h. even-trans v t u h e) (λ h. even-trans v u t h (even-sym t u e))
+
+-- the rearrangement that begins with two numbers of the row: there is one, so no row has to stand in for it
+
+-- two different places are the first two of an even rearrangement
+first-two : (i j : ℕ) → i < 4 → j < 4 → (i ≡ j → ⊥) → (σ : Row) × List·Memᴰ σ (evenly inOrder) × T (eqb (σ .p) i && eqb (σ .q) j)
+unfolding evenly every any numbersFrom
+first-two i j h k ne = go (or-e (eqb i j) (any (λ σ. eqb (σ .p) i && eqb (σ .q) j) (evenly inOrder)) found)
+  where
+    found : T (eqb i j || any (λ σ. eqb (σ .p) i && eqb (σ .q) j) (evenly inOrder))
+    found =
+        every-at (λ j. eqb i j || any (λ σ. eqb (σ .p) i && eqb (σ .q) j) (evenly inOrder)) (numbersFrom 0 4)
+        (every-at (λ i. every (λ j. eqb i j || any (λ σ. eqb (σ .p) i && eqb (σ .q) j) (evenly inOrder)) (numbersFrom 0 4)) (numbersFrom 0 4) tt
+        (numbers-i 0 4 i (omega arith) (omega arith)))
+        (numbers-i 0 4 j (omega arith) (omega arith))
+
+    go : T (eqb i j) ⊎ T (any (λ σ. eqb (σ .p) i && eqb (σ .q) j) (evenly inOrder))
+        → (σ : Row) × List·Memᴰ σ (evenly inOrder) × T (eqb (σ .p) i && eqb (σ .q) j)
+    go (inl e) = absurd (ne (eqb→eq i j e))
+    go (inr a) = any-e (λ σ. eqb (σ .p) i && eqb (σ .q) j) (evenly inOrder) a
+
+pub arranged-from : (x y : ℕ) (row : Row) → T (holds row x) → T (holds row y) → (x ≡ y → ⊥)
+    → T (rearranged (arrangedFrom x y row) row) × (arrangedFrom x y row .p ≡ x) × (arrangedFrom x y row .q ≡ y)
+unfolding arrangedFrom
+arranged-from x y row hx hy ne =
+    let begins : Row → Bool = λ t. eqb (t .p) x && eqb (t .q) y in
+    let a = in-at (numbers row) 0 (has-e (numbers row) x hx) in
+    let b = in-at (numbers row) 0 (has-e (numbers row) y hy) in
+    let k = first-two (a .0) (b .0) (a .1) (b .1) (λ e. ne (sym (a .2) ∙ ap (λ i. getD (numbers row) i 0) e ∙ b .2)) in
+    let σ = k .0 in
+    let atP = eqb→eq (σ .p) (a .0) (and-l (eqb (σ .p) (a .0)) (eqb (σ .q) (b .0)) (k .2)) in
+    let atQ = eqb→eq (σ .q) (b .0) (and-r (eqb (σ .p) (a .0)) (eqb (σ .q) (b .0)) (k .2)) in
+    let px : getD (numbers row) (σ .p) 0 ≡ x = ap (λ i. getD (numbers row) i 0) atP ∙ a .2 in
+    let qy : getD (numbers row) (σ .q) 0 ≡ y = ap (λ i. getD (numbers row) i 0) atQ ∙ b .2 in
+    let it = first-found noRow begins (evenly row)
+    (any-i begins (evenly row) (even-e (pick row σ) row (places-even row σ (k .1)))
+    (and-i (eqb (getD (numbers row) (σ .p) 0) x) (eqb (getD (numbers row) (σ .q) 0) y) (eq-test _ _ px) (eq-test _ _ qy))) in
+    let t = firstOr noRow begins (evenly row) in (
+      even-i t row (it .0),
+      eqb→eq (t .p) x (and-l (eqb (t .p) x) (eqb (t .q) y) (it .1)),
+      eqb→eq (t .q) y (and-r (eqb (t .p) x) (eqb (t .q) y) (it .1)),
+    )

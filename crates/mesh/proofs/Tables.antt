@@ -1,0 +1,81 @@
+-- The rows of a table of bytes: how many, which, and what bytes they depend on.
+use Prim.Native.Nat.{ℕ, suc, _+_, _*_, _≤_, _<_}
+use mathlib.Core.List.{List, [], _∷_, _++_, map, List·Memᴰ, Memᴰ·map}
+use mathlib.Core.Path.{_≡_, sym, ap, _∙_, subst}
+use native.Mathlib.Omega.{arith}
+use lib.ListN.{length, getD, take, length-map, List·getD-map}
+use lib.Seq.{getD-take}
+use Rattle.lists.specs.Lists.{numbersFrom}
+use Rattle.lists.proofs.Lists.{numbers-e, numbers-i, numbers-length, numbers-at}
+use Rattle.mesh.specs.declared.Row.{Row}
+use Rattle.mesh.specs.Mesh.{rowSize, rowIn, rowsIn}
+use Rattle.mesh.proofs.Lists.{getD-inside, in-at, map-append, map-same, numbers-append}
+
+pub rows-length : (table : List ℕ) (n : ℕ) → length (rowsIn table n) ≡ n
+unfolding rowsIn
+rows-length table n = length-map (numbersFrom 0 n) (rowIn table) ∙ numbers-length 0 n
+
+-- row i of the first n
+pub rows-at : (table : List ℕ) (n i : ℕ) (d : Row) → i < n → getD (rowsIn table n) i d ≡ rowIn table i
+unfolding rowsIn
+rows-at table n i d h =
+    getD-inside (map (rowIn table) (numbersFrom 0 n)) i d (rowIn table 0) (omega (arith, rows-length table n))
+    ∙ List·getD-map (rowIn table) (numbersFrom 0 n) i 0
+    ∙ ap (rowIn table) (omega (arith, numbers-at 0 n i 0 h))
+
+pub row-among : (table : List ℕ) (n i : ℕ) → i < n → List·Memᴰ (rowIn table i) (rowsIn table n)
+unfolding rowsIn
+row-among table n i h = Memᴰ·map (rowIn table) (numbers-i 0 n i (omega arith) (omega arith))
+
+-- each of the first n rows is one of them by its number
+pub among-rows : (table : List ℕ) (n : ℕ) {row : Row} → List·Memᴰ row (rowsIn table n) → (i : ℕ) × (i < n) × (row ≡ rowIn table i)
+among-rows table n m =
+    let k = in-at (rowsIn table n) (rowIn table 0) m in
+    let h : k .0 < n = omega (arith, k .1, rows-length table n) in
+    (k .0, h, sym (k .2) ∙ rows-at table n (k .0) (rowIn table 0) h)
+
+-- the first n rows and those after them
+pub rows-append : (table : List ℕ) (n k : ℕ) → rowsIn table (n + k) ≡ rowsIn table n ++ map (rowIn table) (numbersFrom n k)
+unfolding rowsIn
+rows-append table n k =
+    ap (map (rowIn table)) (numbers-append 0 n k ∙ ap (λ i. numbersFrom 0 n ++ numbersFrom i k) (omega arith))
+    ∙ map-append (rowIn table) (numbersFrom 0 n) (numbersFrom n k)
+
+-- one row more
+pub rows-more : (table : List ℕ) (n : ℕ) → rowsIn table (suc n) ≡ rowsIn table n ++ rowIn table n ∷ []
+unfolding numbersFrom
+rows-more table n = ap (rowsIn table) (omega arith) ∙ rows-append table n 1
+
+-- a row depends on its five bytes
+pub row-agree : (a b : List ℕ) (i : ℕ) → ((j : ℕ) → j < rowSize → getD a (rowSize * i + j) 0 ≡ getD b (rowSize * i + j) 0) → rowIn a i ≡ rowIn b i
+unfolding rowIn
+row-agree a b i e = rw (e 0 (omega arith), e 1 (omega arith), e 2 (omega arith), e 3 (omega arith), e 4 (omega arith))
+
+-- the first n rows depend on the first 5 n bytes
+pub rows-agree : (a b : List ℕ) (n : ℕ) → ((j : ℕ) → j < rowSize * n → getD a j 0 ≡ getD b j 0) → rowsIn a n ≡ rowsIn b n
+unfolding rowsIn
+rows-agree a b n e =
+    map-same (rowIn a) (rowIn b) (numbersFrom 0 n)
+    λ i m. let k = numbers-e 0 n m in row-agree a b i (λ j h. e (rowSize * i + j) (omega (arith, k .1)))
+
+pub rows-take : (table : List ℕ) (k n : ℕ) → rowSize * n ≤ k → rowsIn (take k table) n ≡ rowsIn table n
+rows-take table k n h = rows-agree (take k table) table n (λ j l. getD-take k table j 0 (omega arith))
+
+-- The point numbers of a row are bytes.
+pub record Bytes (row : Row) : Type 0 where
+  pub byte-p : row .p < 256
+  pub byte-q : row .q < 256
+  pub byte-r : row .r < 256
+  pub byte-s : row .s < 256
+
+pub row-bytes : (table : List ℕ) → ((j : ℕ) → getD table j 0 < 256) → (i : ℕ) → Bytes (rowIn table i)
+unfolding rowIn
+row-bytes table h i = record {
+  byte-p = h (rowSize * i + 0);
+  byte-q = h (rowSize * i + 1);
+  byte-r = h (rowSize * i + 2);
+  byte-s = h (rowSize * i + 3);
+}
+
+pub rows-bytes : (table : List ℕ) → ((j : ℕ) → getD table j 0 < 256) → (n : ℕ) (row : Row) → List·Memᴰ row (rowsIn table n) → Bytes row
+rows-bytes table h n row m = let k = among-rows table n m in subst Bytes (sym (k .2)) (row-bytes table h (k .0))

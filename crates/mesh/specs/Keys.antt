@@ -1,0 +1,37 @@
+-- A directed face as one number, so that two faces are compared by one comparison.
+use Prim.Native.Nat.{ℕ, _+_, _*_, min}
+use mathlib.Core.List.{List, map, flatMap}
+use Rattle.mesh.specs.declared.Row.{Row}
+use Rattle.mesh.specs.Mesh.{Face, faces}
+
+-- at most 60 rows stand in a block, and one more in a table that is being changed
+abbrev pub mostRows : ℕ
+mostRows = 61
+
+-- the faces of a row
+abbrev pub rowFaces : ℕ
+rowFaces = 4
+
+-- the faces of a table
+abbrev pub mostKeys : ℕ
+mostKeys = rowFaces * mostRows
+
+-- three point numbers as one number
+abbrev pub threeAsOne : ℕ → ℕ → ℕ → ℕ
+threeAsOne x y z = x * 65536 + y * 256 + z
+
+-- turning a face's three numbers round in a circle gives the same face: of the three turns, the least as one number, so that the smallest is first
+unfoldable pub faceKey : Face → ℕ
+faceKey f =
+    let x = f .0 in
+    let y = f .1 in
+    let z = f .2 in
+    min (threeAsOne x y z) (min (threeAsOne y z x) (threeAsOne z x y))
+
+-- the keys of a row's four directed faces
+abbrev pub rowKeys : Row → List ℕ
+rowKeys row = map faceKey (faces row)
+
+-- the keys of the directed faces of a table's rows, in order
+abbrev pub tableKeys : List Row → List ℕ
+tableKeys rows = flatMap rowKeys rows
