@@ -1,2 +1,4 @@
 pub mod Layout
 pub mod Answers
+pub mod PlainSums
+pub mod Within

@@ -2,3 +2,4 @@ pub mod Summing
 pub mod Removing
 pub mod Flipping
 pub mod Printout
+pub mod Demands

@@ -1,7 +1,273 @@
 // The ring round an edge.
+ghost use mathlib.Core.Path.{_≡_};
+ghost use mathlib.Core.List.{[], _∷_, _++_};
+ghost use Prim.Native.Nat.{ℕ, _+_, _*_, _<_, _≤_};
+ghost use lib.Dec.{T};
+ghost use lib.ListN.{length, take};
+ghost use Rattle.lists.specs.Lists.{every, has};
+ghost use Rattle.mesh.specs.Mesh.{rowSize, rowsIn, holds, numbersFit, keepsMeshRule};
+ghost use Rattle.block.specs.Layout.{maxRows};
+ghost use Rattle.ring.specs.Ring.{holdsEdge, link, circle, starts, smallest, maxRing, ringWith};
+ghost use Rattle.ring.specs.Found.{refusedWith, foundOf, edgeIn, linksOf, ends, following, linksIn, walked, LinkedRow, Table};
+use block::Answer;
+use mesh::Row;
+
+// The smallest and the largest m.
+const MIN_RING: usize = 3;
+
+const MAX_RING: usize = 10;
 
 // The ring: m points, v1 to vm from place 0 on; the places after them are zero.
 pub struct Ring {
     pub m: u8,
     pub v: [u8; 10],
+}
+
+// What finding gives: the answer and, if it is done, the ring; with a refusal the ring has no points.
+pub struct Found {
+    pub answer: Answer,
+    pub ring: Ring,
+}
+
+// A link v to w.
+pub struct Link {
+    pub v: u8,
+    pub w: u8,
+}
+
+// The n links round an edge, in the order of their rows: link i goes from starts[i] to ends[i].
+struct Links {
+    n: usize,
+    starts: [u8; 60],
+    ends: [u8; 60],
+}
+
+// A walk: whether it came back to its start, and then the m points that it went by.
+struct Circle {
+    closed: bool,
+    m: usize,
+    v: [u8; 60],
+}
+
+// ---- the links
+
+// The row holds point n.
+pub fn row_holds(row: Row, n: u8) -> bool
+    ensures { λ r. ⌜ r ≡ holds row n ⌝ }
+{
+    if n == row.p {
+        return true;
+    }
+    if n == row.q {
+        return true;
+    }
+    if n == row.r {
+        return true;
+    }
+    n == row.s
+}
+
+// The row holds both ends.
+pub fn holds_edge(row: Row, a: u8, b: u8) -> bool
+    ensures { λ r. ⌜ r ≡ holdsEdge a b row ⌝ }
+{
+    if row_holds(row, a) {
+        return row_holds(row, b);
+    }
+    false
+}
+
+// What follows b in the face x, y, z, turned round to begin with b.
+fn after(x: u8, y: u8, z: u8, b: u8) -> Link
+    ensures { λ r. ⌜ (r .v, r .w) ≡ following x y z b ⌝ }
+{
+    if b == x {
+        return Link { v: y, w: z };
+    }
+    if b == y {
+        return Link { v: z, w: x };
+    }
+    Link { v: x, w: y }
+}
+
+// The link of a row that holds both ends: what follows b in the face opposite a.
+pub fn link_of(row: Row, a: u8, b: u8) -> Link
+    requires { ⌜ LinkedRow a b row ⌝ }
+    ensures { λ r. ⌜ (r .v, r .w) ≡ link a b row ⌝ }
+{
+    if a == row.p {
+        return after(row.q, row.r, row.s, b);
+    }
+    if a == row.q {
+        return after(row.p, row.s, row.r, b);
+    }
+    if a == row.r {
+        return after(row.p, row.q, row.s, b);
+    }
+    after(row.p, row.r, row.q, b)
+}
+
+// One link more.
+fn added(links: Links, l: Link) -> Links
+    requires { ⌜ links .n < maxRows ⌝ }
+    ensures { λ r. ⌜ (r .n ≡ links .n + 1) × (linksIn r ≡ linksIn links ++ (l .v, l .w) ∷ []) ⌝ }
+{
+    let n = links.n;
+    let mut next = links;
+    next.starts[n] = l.v;
+    next.ends[n] = l.w;
+    next.n = n + 1;
+    next
+}
+
+// The links of the first n rows.
+fn gather(table: &[u8], n: usize, a: u8, b: u8) -> Links
+    requires { ⌜ Table (now table) n a b ⌝ }
+    ensures { λ r. ⌜ (r .n ≤ maxRows) × (linksIn r ≡ linksOf a b (rowsIn (now (table .entry)) n)) ⌝ }
+{
+    let mut links = Links {
+        n: 0,
+        starts: [0; 60],
+        ends: [0; 60],
+    };
+    for i in 0..n {
+        let row = mesh::row_in(table, i);
+        if holds_edge(row, a, b) {
+            links = added(links, link_of(row, a, b));
+        }
+    }
+    links
+}
+
+// ---- the ring
+
+// A link goes from v.
+fn starts_link(links: Links, v: u8) -> bool
+    requires { ⌜ links .n ≤ maxRows ⌝ }
+    ensures { λ r. ⌜ r ≡ has (starts (linksIn links)) v ⌝ }
+{
+    for i in 0..links.n {
+        if v == links.starts[i] {
+            return true;
+        }
+    }
+    false
+}
+
+// From the end of each link a link goes on.
+fn ends_start(links: Links) -> bool
+    requires { ⌜ links .n ≤ maxRows ⌝ }
+    ensures { λ r. ⌜ r ≡ every (has (starts (linksIn links))) (ends (linksIn links)) ⌝ }
+{
+    for i in 0..links.n {
+        if !starts_link(links, links.ends[i]) {
+            return false;
+        }
+    }
+    true
+}
+
+// The smallest point from which a link goes; there is a link.
+fn smallest_start(links: Links) -> u8
+    requires { ⌜ (0 < links .n) × (links .n ≤ maxRows) ⌝ }
+    ensures { λ r. ⌜ r ≡ smallest (starts (linksIn links)) ⌝ }
+{
+    let mut least = links.starts[0];
+    for i in 1..links.n {
+        if links.starts[i] < least {
+            least = links.starts[i];
+        }
+    }
+    least
+}
+
+// The walk from a point along the links: it ends at the first missing link, or when it is back at its start.
+fn walk(links: Links, start: u8) -> Circle
+    requires { ⌜ links .n ≤ maxRows ⌝ }
+    ensures { λ r. ⌜ (r .m ≤ length (r .v)) × (walked r ≡ circle (linksIn links) start) ⌝ }
+{
+    let n = links.n;
+    let mut v = [0; 60];
+    let mut here = start;
+    let mut m: usize = 0;
+    'walk: while m < n {
+        for i in 0..n {
+            if here == links.starts[i] {
+                v[m] = here;
+                m += 1;
+                here = links.ends[i];
+                if here == start {
+                    return Circle {
+                        closed: true,
+                        m: m,
+                        v: v,
+                    };
+                }
+                continue 'walk;
+            }
+        }
+        break 'walk;
+    }
+    Circle {
+        closed: false,
+        m: 0,
+        v: v,
+    }
+}
+
+// The ring of the first m points.
+fn ring_of(v: [u8; 60], m: usize) -> Ring
+    requires { ⌜ m ≤ maxRing ⌝ }
+    ensures { λ r. ⌜ r ≡ ringWith (take m v) ⌝ }
+{
+    let mut ring = [0; 10];
+    for i in 0..m {
+        ring[i] = v[i];
+    }
+    Ring {
+        m: m as u8,
+        v: ring,
+    }
+}
+
+// A refusal, with its number and nothing else.
+fn refused(number: u8) -> Found
+    ensures { λ r. ⌜ r ≡ refusedWith number ⌝ }
+{
+    Found {
+        answer: Answer::Refused(number),
+        ring: Ring { m: 0, v: [0; 10] },
+    }
+}
+
+// The ring round the edge a, b in the first n rows of a table, or the refusal: 10, 11, 12 or 13.
+pub fn find(table: &[u8], n: usize, a: u8, b: u8) -> Found
+    requires { ⌜ Table (now table) n a b ⌝ }
+    ensures { λ r. ⌜ r ≡ foundOf (edgeIn (rowsIn (now (table .entry)) n) a b) ⌝ }
+{
+    let links = gather(table, n, a, b);
+    if links.n == 0 {
+        return refused(10);
+    }
+    let circle = walk(links, smallest_start(links));
+    if !circle.closed {
+        return refused(11);
+    }
+    if circle.m < links.n {
+        if !ends_start(links) {
+            return refused(11);
+        }
+        return refused(12);
+    }
+    if circle.m < MIN_RING {
+        return refused(13);
+    }
+    if MAX_RING < circle.m {
+        return refused(13);
+    }
+    let v = circle.v;
+    Found {
+        answer: Answer::Done,
+        ring: ring_of(v, circle.m),
+    }
 }

@@ -1,0 +1,131 @@
+-- The three demands, word for word, and what they say of the definitions of the calls.
+use Prim.Native.Nat.{ℕ, _+_, _-_, _≤_, min, max}
+use mathlib.Core.Bool.{Bool, not}
+use mathlib.Core.List.{List, [], _∷_, _++_, List·Memᴰ}
+use mathlib.Core.Logic.{_⊎_, _↔_}
+use mathlib.Core.Path.{_≡_}
+use lib.Dec.{T}
+use lib.ListN.{length}
+use Rattle.lists.specs.Lists.{every, has, those}
+use Rattle.measure.specs.Measure.{worse}
+use Rattle.mesh.specs.declared.Row.{Row}
+use Rattle.mesh.specs.Mesh.{MeshRule, rowQuality, totalD}
+use Rattle.mesh.specs.Tetrahedra.{SameTetrahedra}
+use Rattle.block.specs.Layout.{Patch, blockBytes, maxRows, fieldsOf, bytesOf}
+use Rattle.block.specs.Within.{isByte, Kept}
+use Rattle.block.specs.Answers.{openAnswer, openGives, numberOf, sealAnswer, sealBytes}
+use Rattle.ring.specs.Ring.{Site, siteOf, m, minRing, maxRing, holdsEdge}
+use Rattle.pieces.specs.Triangulation.{Tri, span, newRows, rowsAfter, tableAfter}
+use Rattle.pieces.specs.Admissible.{admissible}
+use Rattle.pieces.specs.Best.{worstOfWay, chosen}
+use Rattle.patch.specs.Summing.{summaryGives, summaryNumber}
+use Rattle.patch.specs.Removing.{worstNow, removeAnswer, removeBytes, removeGives, removalNumber, Sound}
+use Rattle.patch.specs.Flipping.{flip32Answer, flip32Bytes, holdsFace, pairOf, threeRows, flip23Answer, flip23Bytes}
+
+-- ---- Demand 1
+-- "Every call ends with an answer, for every block and every edge or face number, and never relies on the caller having
+-- looked first. A refusal carries its number from the list and the output block keeps all its bytes."
+
+-- the numbers that opening and the summary answer
+abbrev pub openNumbers : List ℕ
+openNumbers = 0 ∷ 1 ∷ 2 ∷ 3 ∷ 4 ∷ 5 ∷ 6 ∷ 7 ∷ 8 ∷ []
+
+-- the numbers that sealing answers
+abbrev pub sealNumbers : List ℕ
+sealNumbers = 0 ∷ 1 ∷ 3 ∷ 4 ∷ 5 ∷ 6 ∷ 7 ∷ 8 ∷ []
+
+-- the numbers that a removal answers
+abbrev pub removeNumbers : List ℕ
+removeNumbers = openNumbers ++ (9 ∷ 10 ∷ 11 ∷ 12 ∷ 13 ∷ 14 ∷ 15 ∷ 16 ∷ 17 ∷ [])
+
+-- the numbers that a 3-2 flip answers
+abbrev pub flip32Numbers : List ℕ
+flip32Numbers = openNumbers ++ (9 ∷ 10 ∷ 11 ∷ 12 ∷ 13 ∷ 15 ∷ [])
+
+-- the numbers that a 2-3 flip answers
+abbrev pub flip23Numbers : List ℕ
+flip23Numbers = openNumbers ++ (9 ∷ 10 ∷ 11 ∷ 18 ∷ 14 ∷ 15 ∷ [])
+
+-- Each call's answer is on its list, what it returns has that number, and any number but 0 leaves the output as it came.
+pub record Demand1 : Type 0 where
+  pub open-listed : (block : List ℕ) → T (has openNumbers (openAnswer block))
+  pub open-number : (block : List ℕ) → numberOf (openGives block .answer) ≡ openAnswer block
+  pub summary-number : (block : List ℕ) → summaryNumber (summaryGives block) ≡ openAnswer block
+  pub seal-listed : (body out : List ℕ) → T (has sealNumbers (sealAnswer body out))
+  pub seal-keeps : (body out : List ℕ) → (sealAnswer body out ≡ 0 → ⊥) → sealBytes body out ≡ out
+  pub remove-listed : (block out : List ℕ) (e f : ℕ) → T (has removeNumbers (removeAnswer block out e f))
+  pub remove-number : (block out : List ℕ) (e f : ℕ) → removalNumber (removeGives block out e f .removal) ≡ removeAnswer block out e f
+  pub remove-keeps : (block out : List ℕ) (e f : ℕ) → (removeAnswer block out e f ≡ 0 → ⊥) → removeBytes block out e f ≡ out
+  pub flip32-listed : (block out : List ℕ) (e f : ℕ) → T (has flip32Numbers (flip32Answer block out e f))
+  pub flip32-keeps : (block out : List ℕ) (e f : ℕ) → (flip32Answer block out e f ≡ 0 → ⊥) → flip32Bytes block out e f ≡ out
+  pub flip23-listed : (block out : List ℕ) (x y z : ℕ) → T (has flip23Numbers (flip23Answer block out x y z))
+  pub flip23-keeps : (block out : List ℕ) (x y z : ℕ) → (flip23Answer block out x y z ≡ 0 → ⊥) → flip23Bytes block out x y z ≡ out
+
+-- ---- Demand 2
+-- "Blocks are read and written by the stated layout, and reading what was written gives the fields back. Summary, ring, new
+-- rows and row order are those of document 01, resting on the published edge removal method. Rows away from the edge are
+-- kept, no face is used twice the same way, and the total signed volume stays the same."
+
+-- What an accepted call leaves: the block opens, its points are the input's, the kept rows stand first, in order and unchanged,
+-- then the new rows; the mesh rule holds, and the total D is the input's.
+pub record Accepted (block output : List ℕ) (goes : Row → Bool) (new : List Row) : Type 0 where
+  pub opens : openAnswer output ≡ 0
+  pub points : fieldsOf output .points ≡ fieldsOf block .points
+  pub rows : fieldsOf output .rows ≡ those (λ row. not (goes row)) (fieldsOf block .rows) ++ new
+  pub rule : MeshRule (length (fieldsOf output .points)) (fieldsOf output .rows)
+  pub volume : totalD (fieldsOf output .points) (fieldsOf output .rows) ≡ totalD (fieldsOf block .points) (fieldsOf block .rows)
+
+-- what a slice of bytes holds
+abbrev pub Bytes : List ℕ → Type 0
+Bytes block = T (every isByte block)
+
+-- Answer 0 of each call that writes, and the round trips.
+pub record Demand2 : Type 0 where
+  pub remove : (block out : List ℕ) (e f : ℕ) → Bytes block → removeAnswer block out e f ≡ 0
+      → let site = siteOf (fieldsOf block) e f in
+      Accepted block (removeBytes block out e f) (holdsEdge (min e f) (max e f)) (newRows site 1 (chosen site))
+  pub flip32 : (block out : List ℕ) (e f : ℕ) → Bytes block → flip32Answer block out e f ≡ 0
+      → let site = siteOf (fieldsOf block) e f in
+      Accepted block (flip32Bytes block out e f) (holdsEdge (min e f) (max e f)) (newRows site 1 (chosen site))
+  pub flip23 : (block out : List ℕ) (x y z : ℕ) → Bytes block → flip23Answer block out x y z ≡ 0
+      → let face = x ∷ y ∷ z ∷ [] in
+      Accepted block (flip23Bytes block out x y z) (holdsFace face) (threeRows (pairOf (fieldsOf block) face) face)
+  pub seal : (body out : List ℕ) → Bytes body → sealAnswer body out ≡ 0
+      → (openAnswer (sealBytes body out) ≡ 0) × (fieldsOf (sealBytes body out) ≡ fieldsOf body)
+  pub written-read : (block : List ℕ) → Bytes block → openAnswer block ≡ 0 → bytesOf (fieldsOf block) ≡ block
+  pub read-written : (patch : Patch) → Kept patch → (openAnswer (bytesOf patch) ≡ 0) × (fieldsOf (bytesOf patch) ≡ patch)
+
+-- ---- Demand 3
+-- "Take a valid block, an output block of the right length and an edge whose tetrahedra form one closed ring of 3 to 10, with
+-- room for the result and at least one way of triangulating the ring that keeps the mesh rule. The call answers 'none better'
+-- exactly when each such way makes a tetrahedron no better than the worst one round the edge now. Otherwise it carries out a
+-- way whose worst tetrahedron is at least as good as that of every other such way. Better means the exact fraction, not its
+-- rounded picture."
+
+-- a way of triangulating the ring that keeps the mesh rule
+abbrev pub Way : Site → Tri → Type 0
+Way site t = (span t ≡ m site - 1) × T (admissible site t)
+
+-- The premises of the third demand.
+pub record Premises (block out : List ℕ) (e f : ℕ) : Type 0 where
+  pub sound : Sound block e f
+  pub right-length : length out ≡ blockBytes
+  pub from-three : minRing ≤ m (siteOf (fieldsOf block) e f)
+  pub to-ten : m (siteOf (fieldsOf block) e f) ≤ maxRing
+  pub room : rowsAfter (siteOf (fieldsOf block) e f) ≤ maxRows
+  pub some-way : (t : Tri) × Way (siteOf (fieldsOf block) e f) t
+
+-- each such way makes a tetrahedron no better than the worst one round the edge now
+abbrev pub NoneBetter : Site → Type 0
+NoneBetter site =
+    (t : Tri) → Way site t
+    → (row : Row) × List·Memᴰ row (newRows site 1 t) × T (not (worse (worstNow site) (rowQuality (site .points) row)))
+
+-- 16 exactly then; otherwise, 17 apart, the way written keeps the mesh rule and its worst is at least as good as each other's
+pub record Demand3 (block out : List ℕ) (e f : ℕ) : Type 0 where
+  pub none-better : (removeAnswer block out e f ≡ 16) ↔ NoneBetter (siteOf (fieldsOf block) e f)
+  pub otherwise : (NoneBetter (siteOf (fieldsOf block) e f) → ⊥) → (removeAnswer block out e f ≡ 0) ⊎ (removeAnswer block out e f ≡ 17)
+  pub carried-out : removeAnswer block out e f ≡ 0
+      → let site = siteOf (fieldsOf block) e f in
+      (t : Tri) × Way site t × (fieldsOf (removeBytes block out e f) .rows ≡ tableAfter site t)
+      × ((u : Tri) → Way site u → T (not (worse (worstOfWay site 1 t) (worstOfWay site 1 u))))

@@ -1,0 +1,64 @@
+-- The links that two arrays hold: how many, which stands where, and one link more.
+use Prim.Native.Nat.{ℕ, suc, _+_, _<_}
+use mathlib.Core.List.{[], _∷_, _++_, map}
+use mathlib.Core.Path.{_≡_, ap, _∙_}
+use native.Mathlib.Omega.{arith}
+use lib.ListN.{length, getD, set, drop, length-map}
+use lib.Seq.{drop-cons, getD-set-same, getD-set-other}
+use Rattle.lists.specs.Lists.{numbersFrom}
+use Rattle.lists.proofs.Lists.{numbers-e, numbers-length, numbers-at}
+use Rattle.mesh.proofs.Lists.{map-same}
+use Rattle.ring.specs.declared.Links.{Links}
+use Rattle.ring.specs.Ring.{Link, starts}
+use Rattle.ring.specs.Found.{ends, linksIn}
+use Rattle.ring.proofs.Lists.{map-at, map-more}
+
+pub in-length : (links : Links) → length (linksIn links) ≡ links .n
+unfolding linksIn
+in-length links = length-map (numbersFrom 0 (links .n)) _ ∙ numbers-length 0 (links .n)
+
+pub in-at : (links : Links) (i : ℕ) → i < links .n → getD (linksIn links) i (0, 0) ≡ (getD (links .starts) i 0, getD (links .ends) i 0)
+unfolding linksIn
+in-at links i h =
+    let l = numbers-length 0 (links .n) in
+    let e : getD (numbersFrom 0 (links .n)) i 0 ≡ i = numbers-at 0 (links .n) i 0 h ∙ omega arith in
+    map-at _ (numbersFrom 0 (links .n)) i 0 (0, 0) (omega arith) ∙ rw e
+
+pub starts-length : (links : Links) → length (starts (linksIn links)) ≡ links .n
+starts-length links = length-map (linksIn links) (λ l. l .0) ∙ in-length links
+
+pub ends-length : (links : Links) → length (ends (linksIn links)) ≡ links .n
+ends-length links = length-map (linksIn links) (λ l. l .1) ∙ in-length links
+
+pub starts-at : (links : Links) (i : ℕ) → i < links .n → getD (starts (linksIn links)) i 0 ≡ getD (links .starts) i 0
+starts-at links i h =
+    let k : i < length (linksIn links) = omega (arith, in-length links) in
+    map-at (λ (l : Link). l .0) (linksIn links) i (0, 0) 0 k ∙ ap (λ (l : Link). l .0) (in-at links i h)
+
+pub in-drop : (links : Links) (i : ℕ) → i < links .n
+    → drop i (linksIn links) ≡ (getD (links .starts) i 0, getD (links .ends) i 0) ∷ drop (suc i) (linksIn links)
+in-drop links i h = drop-cons (linksIn links) i (0, 0) (omega (arith, in-length links)) ∙ ap (λ l. l ∷ drop (suc i) (linksIn links)) (in-at links i h)
+
+pub in-added : (links : Links) (v w : ℕ) → links .n < length (links .starts) → links .n < length (links .ends)
+    → linksIn (record { n = links .n + 1; starts = set (links .starts) (links .n) v; ends = set (links .ends) (links .n) w }) ≡ linksIn links ++ (v, w) ∷ []
+unfolding linksIn
+in-added links v w s e =
+    let n = links .n in
+    let at : ℕ → Link = λ i. (getD (set (links .starts) n v) i 0, getD (set (links .ends) n w) i 0) in
+    let old : ℕ → Link = λ i. (getD (links .starts) i 0, getD (links .ends) i 0) in
+    let front : map at (numbersFrom 0 n) ≡ map old (numbersFrom 0 n) = map-same at old (numbersFrom 0 n) (λ i m.
+    let h = (numbers-e 0 n m) .1 in
+    rw (getD-set-other (links .starts) n i v 0 (λ q. omega arith), getD-set-other (links .ends) n i w 0 (λ q. omega arith)))
+    in
+    let back : at n ≡ (v, w) = rw (getD-set-same (links .starts) n v 0 s, getD-set-same (links .ends) n w 0 e) in
+    map-more at n ∙ rw (front, back)
+
+pub starts-drop : (links : Links) (i : ℕ) → i < links .n → drop i (starts (linksIn links)) ≡ getD (links .starts) i 0 ∷ drop (suc i) (starts (linksIn links))
+starts-drop links i h =
+    drop-cons (starts (linksIn links)) i 0 (omega (arith, starts-length links)) ∙ ap (λ n. n ∷ drop (suc i) (starts (linksIn links))) (starts-at links i h)
+
+pub ends-drop : (links : Links) (i : ℕ) → i < links .n → drop i (ends (linksIn links)) ≡ getD (links .ends) i 0 ∷ drop (suc i) (ends (linksIn links))
+ends-drop links i h =
+    let k : i < length (linksIn links) = omega (arith, in-length links) in
+    let e = map-at (λ (l : Link). l .1) (linksIn links) i (0, 0) 0 k ∙ ap (λ (l : Link). l .1) (in-at links i h) in
+    drop-cons (ends (linksIn links)) i 0 (omega (arith, ends-length links)) ∙ ap (λ n. n ∷ drop (suc i) (ends (linksIn links))) e

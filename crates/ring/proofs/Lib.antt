@@ -1,0 +1,11 @@
+pub mod Lists
+pub mod Arrays
+pub mod Tables
+pub mod Linking
+pub mod Walking
+pub mod Stepping
+pub mod Rounding
+pub mod Closing
+pub mod Sites
+pub mod Finding
+pub mod Order

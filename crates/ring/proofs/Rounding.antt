@@ -1,0 +1,103 @@
+-- Law 10: links that all close, in one circle, are the links of the ring: its points are different, each is linked to the next and the last to the first.
+use Prim.Native.Nat.{ℕ, _≤_, _<_, min}
+use mathlib.Core.Bool.{true, false}
+use mathlib.Core.List.{List, [], _∷_, foldr, List·Memᴰ, List·Memᴰ·head, List·Memᴰ·tail, List·Memᴰ·not-nil, Memᴰ·map}
+use mathlib.Core.Option.{Option, none, some, Option·getD}
+use mathlib.Core.Path.{_≡_, refl, sym, ap, _∙_}
+use native.Mathlib.Decide.{decLe}
+use native.Mathlib.Omega.{arith}
+use lib.Dec.{T}
+use lib.ListN.{length, getD, length-map}
+use Rattle.lists.specs.Lists.{every, has, different}
+use Rattle.lists.proofs.Lists.{every-at, has-e}
+use Rattle.mesh.proofs.Lists.{in-at}
+use Rattle.ring.specs.Ring.{Link, next, circle, closes, starts, smallest, ringOf}
+use Rattle.ring.proofs.Lists.{pair-is, in-cases, in-length, no-more}
+use Rattle.ring.proofs.Walking.{Walks, after, some-is, walk-walks, walks-different, walks-start, walks-first, walks-after, next-in, next-is}
+
+-- ---- the smallest of some numbers
+
+least-in : (n : ℕ) (ns : List ℕ) → List·Memᴰ (foldr min n ns) (n ∷ ns)
+least-in n [] = List·Memᴰ·head refl
+least-in n (k ∷ ks) = go (decLe k (foldr min n ks)) (least-in n ks)
+  where
+    go : Dec (k ≤ foldr min n ks) → List·Memᴰ (foldr min n ks) (n ∷ ks) → List·Memᴰ (min k (foldr min n ks)) (n ∷ k ∷ ks)
+    go (yes h) m = let e : min k (foldr min n ks) ≡ k = omega arith in List·Memᴰ·tail (List·Memᴰ·head e)
+    go (no h) m =
+        let e : min k (foldr min n ks) ≡ foldr min n ks = omega arith in
+        rw e (in-cases m (λ q. List·Memᴰ·head q) (λ m. List·Memᴰ·tail (List·Memᴰ·tail m)))
+
+least-le : (n : ℕ) (ns : List ℕ) {x : ℕ} → List·Memᴰ x (n ∷ ns) → foldr min n ns ≤ x
+least-le n [] m = in-cases m (λ e. omega arith) (λ k. absurd (List·Memᴰ·not-nil k))
+least-le n (k ∷ ks) {x} m =
+    in-cases m (λ e. let r = least-le n ks (List·Memᴰ·head e) in omega arith)
+    λ m. in-cases m (λ e. omega arith) (λ m. let r = least-le n ks (List·Memᴰ·tail m) in omega arith)
+
+-- it is one of them, if there are any
+pub smallest-in : (ns : List ℕ) → 0 < length ns → List·Memᴰ (smallest ns) ns
+unfolding smallest
+smallest-in [] h = absurd (omega arith)
+smallest-in (n ∷ ns) h = least-in n ns
+
+pub smallest-le : (ns : List ℕ) {n : ℕ} → List·Memᴰ n ns → smallest ns ≤ n
+unfolding smallest
+smallest-le [] m = absurd (List·Memᴰ·not-nil m)
+smallest-le (n ∷ ns) m = least-le n ns m
+
+-- the one of them that none is below
+pub smallest-is : (ns : List ℕ) (n : ℕ) → List·Memᴰ n ns → ((k : ℕ) → List·Memᴰ k ns → n ≤ k) → n ≡ smallest ns
+smallest-is ns n m f =
+    let low = smallest-le ns m in
+    let high = f (smallest ns) (smallest-in ns (in-length ns m)) in
+    omega arith
+
+-- ---- the ring of links
+
+-- The ring goes round by all the links, from its smallest point, and meets no point twice.
+pub record GoesRound (links : List Link) (ring : List ℕ) : Type 0 where
+  -- it has as many points as there are links
+  pub size : length ring ≡ length links
+  pub apart : T (different ring)
+  -- each point is linked to the one after it, the last one to the first
+  pub linked : (i : ℕ) → i < length ring → List·Memᴰ (getD ring i 0, after ring i) links
+  -- and there are no other links
+  pub only : (l : Link) → List·Memᴰ l links → (i : ℕ) × (i < length ring) × (l ≡ (getD ring i 0, after ring i))
+  -- v1 is the smallest point from which a link goes
+  pub least : getD ring 0 0 ≡ smallest (starts links)
+
+-- The links close from their smallest start, so `smallest` and `ringOf` do not stand in for anything.
+module _ (links : List Link) (some-link : 0 < length links) (close : T (every (closes links) (starts links))) where
+  pub first-start : List·Memᴰ (smallest (starts links)) (starts links)
+  first-start = smallest-in (starts links) (omega (arith, length-map links (λ (l : Link). l .0)))
+
+  pub ring-circle : circle links (smallest (starts links)) ≡ some (ringOf links)
+  unfolding ringOf
+  ring-circle = go (circle links (smallest (starts links))) (every-at (closes links) (starts links) close first-start)
+    where
+      go : (o : Option (List ℕ)) → T (elim o [ none ↦ false | some points ↦ true ]) → o ≡ some (Option·getD o [])
+      go none h = absurd h
+      go (some points) h = refl
+
+  pub ring-walks : Walks links (smallest (starts links)) (smallest (starts links)) (ringOf links)
+  ring-walks = walk-walks links (smallest (starts links)) (length links) (smallest (starts links)) ring-circle
+
+  module _ (single : T (different (starts links))) (whole : T (every (has (ringOf links)) (starts links))) where
+    pub goes-round : GoesRound links (ringOf links)
+    goes-round =
+        let ring = ringOf links in
+        let v1 = smallest (starts links) in
+        let count = length-map links (λ (l : Link). l .0) in
+        let few = no-more ring (starts links) (walks-different links v1 ring-walks) (λ n m. walks-start links v1 ring-walks m) in
+        let on : (n : ℕ) → List·Memᴰ n (starts links) → List·Memᴰ n ring = λ n m. has-e ring n (every-at (has ring) (starts links) whole m) in
+        let many = no-more (starts links) ring single on in
+        record {
+          size = omega arith;
+          apart = walks-different links v1 ring-walks;
+          linked = λ i h. next-in links (getD ring i 0) (walks-after links v1 i ring-walks h);
+          only = λ l m.
+              let (i, h, e) = in-at ring 0 (on (l .0) (Memᴰ·map (λ (l : Link). l .0) m)) in
+              let f = next-is links single m in
+              let g = walks-after links v1 i ring-walks h in
+              (i, h, pair-is l e (some-is (sym g ∙ ap (next links) e ∙ f)));
+          least = (walks-first links v1 ring-walks) .1;
+        }

@@ -1,0 +1,26 @@
+-- `added` stores the link after those that are there.
+use mathlib.Core.Path.{_≡_, refl}
+use native.Mathlib.Omega.{arith}
+use lib.ListN.{length}
+use Rattle.ring.proofs.Arrays.{in-added}
+use borrow.Author.Needs.{needs}
+use Rattle.ring.proofs.added.Statement.{statement}
+use Rattle.ring.proofs.added.Tie as tie
+
+element-write-next : tie.Need-element-write-next
+element-write-next c = search needs
+
+element-write-next-2 : tie.Need-element-write-next-2
+element-write-next-2 c = search needs
+
+add-next : tie.Need-add-next
+add-next c = search needs
+
+returns : tie.Need-returns
+returns c =
+    let s : length (c .args .links .starts) ≡ 60 = search needs in
+    let e : length (c .args .links .ends) ≡ 60 = search needs in
+    (refl, in-added (c .args .links) (c .args .l .v) (c .args .l .w) (omega (arith, c .pre)) (omega (arith, c .pre)))
+
+pub added-spec : {M : Type 1} → statement M
+added-spec = tie.close (tie.spec element-write-next element-write-next-2 add-next returns)
