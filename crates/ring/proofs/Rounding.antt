@@ -1,19 +1,21 @@
 -- Law 10: links that all close, in one circle, are the links of the ring: its points are different, each is linked to the next and the last to the first.
-use Prim.Native.Nat.{ℕ, _≤_, _<_, min}
+use Prim.Native.Nat.{ℕ, zero, suc, _+_, _≤_, _<_, min}
 use mathlib.Core.Bool.{true, false}
 use mathlib.Core.List.{List, [], _∷_, foldr, List·Memᴰ, List·Memᴰ·head, List·Memᴰ·tail, List·Memᴰ·not-nil, Memᴰ·map}
 use mathlib.Core.Option.{Option, none, some, Option·getD}
-use mathlib.Core.Path.{_≡_, refl, sym, ap, _∙_}
+use mathlib.Core.Path.{_≡_, refl, sym, ap, _∙_, subst}
 use native.Mathlib.Decide.{decLe}
 use native.Mathlib.Omega.{arith}
+use borrow.Author.Tests.{eq-eqb, ne-eqb}
 use lib.Dec.{T}
-use lib.ListN.{length, getD, length-map}
+use lib.ListN.{length, getD, drop, length-map, drop-of-length-le}
+use lib.Seq.{drop-cons}
 use Rattle.lists.specs.Lists.{every, has, different}
 use Rattle.lists.proofs.Lists.{every-at, has-e}
-use Rattle.mesh.proofs.Lists.{in-at}
+use Rattle.mesh.proofs.Lists.{in-at, different-places}
 use Rattle.ring.specs.Ring.{Link, next, circle, closes, starts, smallest, ringOf}
 use Rattle.ring.proofs.Lists.{pair-is, in-cases, in-length, no-more}
-use Rattle.ring.proofs.Walking.{Walks, after, some-is, walk-walks, walks-different, walks-start, walks-first, walks-after, next-in, next-is}
+use Rattle.ring.proofs.Walking.{Walks, last, more, walks-one, after, some-is, walk-walks, walks-different, walks-start, walks-first, walks-after, next-in, next-is}
 
 -- ---- the smallest of some numbers
 
@@ -101,3 +103,31 @@ module _ (links : List Link) (some-link : 0 < length links) (close : T (every (c
               (i, h, pair-is l e (some-is (sym g ∙ ap (next links) e ∙ f)));
           least = (walks-first links v1 ring-walks) .1;
         }
+
+-- ---- there is one such ring
+
+module _ (links : List Link) (single : T (different (starts links))) {ring : List ℕ} (round : GoesRound links ring) where
+  from-place : (k i : ℕ) → i + suc k ≡ length ring → Walks links (smallest (starts links)) (getD ring i 0) (drop i ring)
+  from-place zero i e =
+      let split : drop i ring ≡ getD ring i 0 ∷ [] = drop-cons ring i 0 (omega arith) ∙ ap (λ ps. getD ring i 0 ∷ ps) (drop-of-length-le ring {i = suc i} (omega arith)) in
+      let end : after ring i ≡ smallest (starts links) = rw (eq-eqb (suc i) (length ring) (omega arith)) (round .least) in
+      rw split (last (next-is links single (round .linked i (omega arith)) ∙ ap some end))
+  from-place (suc k) i e =
+      let on : after ring i ≡ getD ring (suc i) 0 = rw (ne-eqb (suc i) (length ring) (λ q. omega arith)) in
+      let new : getD ring (suc i) 0 ≡ smallest (starts links) → ⊥ = λ q.
+      let z = different-places ring 0 (suc i) 0 (round .apart) (omega arith) (omega arith) (q ∙ sym (round .least)) in omega arith
+      in
+      rw (drop-cons ring i 0 (omega arith)) (more (next-is links single (round .linked i (omega arith)) ∙ ap some on) new (from-place k (suc i) (omega arith)))
+
+pub round-one : (links : List Link) {ring other : List ℕ} → T (different (starts links)) → GoesRound links ring → GoesRound links other → ring ≡ other
+round-one links {ring} {other} single p q = go ring other p q
+  where
+    go : (r o : List ℕ) → GoesRound links r → GoesRound links o → r ≡ o
+    go [] [] p q = refl
+    go [] (n ∷ ns) p q = absurd (omega (arith, p .size, q .size))
+    go (n ∷ ns) [] p q = absurd (omega (arith, p .size, q .size))
+    go (n ∷ ns) (k ∷ ks) p q =
+        let v1 = smallest (starts links) in
+        let w = from-place links single p (length ns) 0 (omega arith) in
+        let u = from-place links single q (length ks) 0 (omega arith) in
+        walks-one links v1 w (subst (λ x. Walks links v1 x (k ∷ ks)) (q .least ∙ sym (p .least)) u)

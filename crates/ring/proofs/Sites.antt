@@ -1,11 +1,11 @@
 -- Law 10 of an edge in its patch: answers 9 to 12 not given, the removed rows' links are those of the ring, and its points fit.
-use Prim.Native.Nat.{ℕ, suc, _<_, min, max}
-use mathlib.Core.Bool.{Bool, true, false, cond, _&&_}
+use Prim.Native.Nat.{ℕ, zero, suc, _<_, min, max}
+use mathlib.Core.Bool.{Bool, true, false, cond, _&&_, _||_}
 use mathlib.Core.List.{List, [], _∷_, List·Memᴰ, List·Memᴰ·head, List·Memᴰ·tail, Memᴰ·of-map}
 use mathlib.Core.Path.{_≡_, refl, sym, _∙_}
 use native.Mathlib.Omega.{arith}
-use borrow.Author.Tests.{eqb-false, not-false}
-use lib.Dec.{T, ltb, ltb→lt}
+use borrow.Author.Tests.{eqb-false, ne-eqb, ltb-true, not-false}
+use lib.Dec.{T, eqb, ltb, ltb→lt}
 use lib.ListN.{length, length-map}
 use Rattle.lists.specs.Lists.{every, has, different}
 use Rattle.lists.proofs.Tests.{and-l, and-r, is-yes}
@@ -13,9 +13,11 @@ use Rattle.lists.proofs.Lists.{every-at}
 use Rattle.mesh.specs.declared.Row.{Row}
 use Rattle.mesh.specs.Mesh.{keepsMeshRule}
 use Rattle.block.specs.Layout.{Patch}
-use Rattle.block.specs.Answers.{firstRefusal}
+use Rattle.block.specs.Answers.{firstRefusal, answerOf, numberOf}
 use Rattle.mesh.proofs.Lists.{different-head}
-use Rattle.ring.specs.Ring.{Link, link, closes, starts, Site, siteOf, m, numbersWrong, edgeMissing, linkOpen, manyCircles, edgeTests}
+use Rattle.ring.specs.Ring.{Link, link, closes, starts, minRing, maxRing, ringWith}
+use Rattle.ring.specs.Ring.{Site, siteOf, m, numbersWrong, edgeMissing, linkOpen, manyCircles, lengthWrong, edgeTests}
+use Rattle.ring.specs.Found.{ringTests, foundOf, edgeIn}
 use Rattle.ring.proofs.Linking.{links-fit, starts-different}
 use Rattle.ring.proofs.Rounding.{GoesRound, goes-round, ring-walks}
 use Rattle.ring.proofs.Walking.{walks-start}
@@ -99,3 +101,37 @@ module _ (count : ℕ) (patch : Patch) (e f : ℕ) (apart : e ≡ f → ⊥) (ru
       let (l, k, i) = Memᴰ·of-map (λ (l : Link). l .0) links s in
       let fits = links-fit (min e f) (max e f) ends-apart count (patch .rows) rule k in
       record { below = rw i at (fits .below-v); not-a = λ j. fits .a-v (j ∙ sym i); not-b = λ j. fits .b-v (j ∙ sym i) }
+
+-- ---- what is found, for the calls that ask for it
+
+-- it does not turn on where the points are
+pub found-rows : (patch : Patch) (e f : ℕ) → foundOf (siteOf patch e f) ≡ foundOf (edgeIn (patch .rows) e f)
+unfolding foundOf ringTests linkOpen manyCircles siteOf
+found-rows patch e f = refl
+
+-- its number is that of the first test that is true
+pub found-number : (site : Site) → numberOf ((foundOf site) .answer) ≡ firstRefusal (ringTests site)
+unfolding foundOf
+found-number site = go (firstRefusal (ringTests site))
+  where
+    go : (n : ℕ) → numberOf (answerOf n) ≡ n
+    go zero = refl
+    go (suc n) = refl
+
+-- with answer 0 the links make one ring of 3 to 10 points, and it is given
+pub found-done : (site : Site) → firstRefusal (ringTests site) ≡ 0 → OneCircle site × (lengthWrong site ≡ false) × ((foundOf site) .ring ≡ ringWith (site .ring))
+unfolding firstRefusal ringTests foundOf
+found-done site q =
+    let (p10, q11) = no-refusal 9 _ _ q in
+    let (p11, q12) = no-refusal 10 _ _ q11 in
+    let (p12, q13) = no-refusal 11 _ _ q12 in
+    let (p13, rest) = no-refusal 12 _ _ q13 in
+    (record { held = p10; closed = p11; whole = p12 }, p13, rw (p10, p11, p12, p13))
+
+-- a ring of a wrong length is no ring of three, so the 3-2 flip refuses it with the same number
+pub wrong-not-three : (site : Site) → lengthWrong site ≡ true → eqb (m site) minRing ≡ false
+wrong-not-three site q = go (ltb (m site) minRing) refl q
+  where
+    go : (b : Bool) → ltb (m site) minRing ≡ b → b || ltb maxRing (m site) ≡ true → eqb (m site) minRing ≡ false
+    go true e q = let h = ltb-true (m site) minRing e in ne-eqb (m site) minRing (λ i. omega arith)
+    go false e q = let h = ltb-true maxRing (m site) q in ne-eqb (m site) minRing (λ i. omega arith)

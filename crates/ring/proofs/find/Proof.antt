@@ -1,5 +1,4 @@
 -- `find` gathers the links and walks from their smallest start; each way out is one case of the law.
-use Prim.Native.Nat.{_<_}
 use mathlib.Core.Bool.{Bool}
 use mathlib.Core.Path.{sym, ap, _∙_}
 use native.Mathlib.Omega.{arith}
@@ -120,7 +119,7 @@ returns-6 : tie.Need-returns-6
 returns-6 c =
     let w = c .before .before .before .before .before .before .before .before .before .before in
     let closed = not-false (back w) (c .before .before .before .before .before .before .before .before .if2 .left) in
-    c .refused6 .ensures ∙ gives-long (gone w) closed (c .before .before .before .before .before .if3 .left) (c .before .before .before .if5 .left) (c .before .if6 .taken)
+    c .refused6 .ensures ∙ gives-long (gone w) closed (c .before .before .before .before .before .if3 .left) (c .before .before .before .if5 .left) (omega (arith, c .before .if6 .taken))
 
 ring-of-requires : tie.Need-ring-of-requires
 ring-of-requires c κs = search needs
