@@ -199,7 +199,7 @@ fn face_twice(block: &[u8]) -> bool
 }
 
 // Writes one slice to the front of another.
-fn copy(from: &[u8], to: &mut [u8])
+pub fn copy(from: &[u8], to: &mut [u8])
     requires { ⌜ length (now from) ≤ length (now to) ⌝ }
     ensures { λ r. ⌜ now (to .exit) ≡ now (from .entry) ++ drop (length (now (from .entry))) (now (to .entry)) ⌝ }
 {

@@ -1,0 +1,4 @@
+pub mod Pasted
+pub mod Tables
+pub mod Staying
+pub mod Written

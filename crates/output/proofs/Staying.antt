@@ -1,0 +1,76 @@
+-- Which rows stay, in the words of an edge and of a face; and the rows that stay, one row of the table after the other.
+use Prim.Native.Nat.{ℕ, _+_, _*_}
+use mathlib.Core.Bool.{Bool, true, false, not, _&&_}
+use mathlib.Core.List.{List, [], _∷_, _++_, flatMap, append-nil}
+use mathlib.Core.Path.{_≡_, refl, sym, ap, _∙_}
+use native.Mathlib.Numerals.{add-one}
+use native.Mathlib.Omega.{arith}
+use lib.ListN.{length, drop, length-append}
+use Rattle.lists.specs.Lists.{every, those}
+use Rattle.lists.proofs.Lists.{those-append}
+use Rattle.mesh.specs.declared.Row.{Row}
+use Rattle.mesh.specs.Mesh.{rowSize, rowBytes, rowIn, rowsIn, holds}
+use Rattle.mesh.proofs.Lists.{and-true}
+use Rattle.mesh.proofs.Tables.{rows-more}
+use Rattle.output.specs.Output.{stays, staying, pasted}
+use Rattle.output.proofs.Tables.{front-more}
+
+-- a test in other words lets the same elements pass
+pub those-same : {A : Type 0} (p q : A → Bool) → ((x : A) → p x ≡ q x) → (xs : List A) → those p xs ≡ those q xs
+unfolding those
+those-same p q f [] = refl
+those-same p q f (x ∷ xs) = rw (f x, those-same p q f xs)
+
+twice : (a b : Bool) → a && (b && b) ≡ a && b
+twice true true = refl
+twice true false = refl
+twice false b = refl
+
+-- an edge
+pub edge-stays : (x y : ℕ) (row : Row) → stays x y y row ≡ not (holds row x && holds row y)
+unfolding stays
+edge-stays x y row = ap not (twice (holds row x) (holds row y))
+
+pub edge-staying : (x y : ℕ) (rows : List Row) → staying x y y rows ≡ those (λ row. not (holds row x && holds row y)) rows
+edge-staying x y rows = those-same (stays x y y) (λ row. not (holds row x && holds row y)) (edge-stays x y) rows
+
+-- a face
+pub face-stays : (x y z : ℕ) (row : Row) → stays x y z row ≡ not (every (holds row) (x ∷ y ∷ z ∷ []))
+unfolding stays every
+face-stays x y z row = ap (λ last. not (holds row x && (holds row y && last))) (sym (and-true (holds row z)))
+
+pub face-staying : (x y z : ℕ) (rows : List Row) → staying x y z rows ≡ those (λ row. not (every (holds row) (x ∷ y ∷ z ∷ []))) rows
+face-staying x y z rows = those-same (stays x y z) (λ row. not (every (holds row) (x ∷ y ∷ z ∷ []))) (face-stays x y z) rows
+
+-- one row more of a table
+
+module _ {A : Type 0} (p : A → Bool) (xs : List A) (x : A) where
+  those-yes : p x ≡ true → those p (xs ++ x ∷ []) ≡ those p xs ++ x ∷ []
+  unfolding those
+  those-yes e = those-append p xs (x ∷ []) ∙ rw e
+
+  those-no : p x ≡ false → those p (xs ++ x ∷ []) ≡ those p xs
+  unfolding those
+  those-no e = those-append p xs (x ∷ []) ∙ rw e (append-nil (those p xs))
+
+module _ (x y z : ℕ) (table rest : List ℕ) where
+  -- the rows that stay, of the first i, are k and stand at the front of a table
+  abbrev pub Front : ℕ → ℕ → List ℕ → Type 0
+  Front i k rows = (k ≡ length (staying x y z (rowsIn table i))) × (rows ≡ flatMap rowBytes (staying x y z (rowsIn table i)) ++ drop (rowSize * k) rest)
+
+  module _ (i k : ℕ) (rows : List ℕ) (front : Front i k rows) (row : Row) (row-is : row ≡ rowIn table i) (test : Bool) (test-is : test ≡ stays x y z row) where
+    -- row i stays and is written behind them
+    pub stays-more : test ≡ true → (after : List ℕ) (next : ℕ) → after ≡ pasted rows (rowSize * k) (rowBytes row) → next ≡ k + 1 → Front (i + 1) next after
+    stays-more e after next a n =
+        let yes : stays x y z (rowIn table i) ≡ true = ap (stays x y z) (sym row-is) ∙ (sym test-is ∙ e) in
+        let kept = staying x y z (rowsIn table i) in
+        let more = front-more kept rest rows k (front .0) (front .1) row after a in
+        let all = those-yes (stays x y z) (rowsIn table i) (rowIn table i) yes in
+        rw (add-one i, rows-more table i, all, ← row-is, n) (omega (arith, length-append kept (row ∷ []), front .0), more)
+
+    -- row i goes
+    pub goes-more : test ≡ false → (after : List ℕ) (next : ℕ) → after ≡ rows → next ≡ k → Front (i + 1) next after
+    goes-more e after next a n =
+        let no' : stays x y z (rowIn table i) ≡ false = ap (stays x y z) (sym row-is) ∙ (sym test-is ∙ e) in
+        let all = those-no (stays x y z) (rowsIn table i) (rowIn table i) no' in
+        rw (add-one i, rows-more table i, all, a, n) front

@@ -1,0 +1,6 @@
+pub mod Lists
+pub mod Places
+pub mod Totals
+pub mod Worsts
+pub mod Bounds
+pub mod Tallies

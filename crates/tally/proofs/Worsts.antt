@@ -1,0 +1,67 @@
+-- What the code keeps of the worst is the worst of the qualities met, or the mark of none.
+use Prim.Native.Nat.{ℕ, suc}
+use mathlib.Core.Bool.{Bool, true, false, cond}
+use mathlib.Core.List.{List, [], _∷_, _++_, foldl-append, map}
+use mathlib.Core.Option.{Option, none, some, Option·getD}
+use mathlib.Core.Path.{_≡_, refl, sym, ap, _∙_}
+use Rattle.lists.specs.Lists.{those}
+use Rattle.measure.specs.declared.Quality.{Quality}
+use Rattle.measure.specs.Measure.{worst, worseOf, zeroQuality}
+use Rattle.measure.specs.declared.WorstScore.the-variants as Marked
+use Rattle.measure.specs.Marks.{score, worstScore}
+use Rattle.mesh.specs.declared.Row.{Row}
+use Rattle.mesh.specs.Mesh.{rowIn, rowsIn}
+use Rattle.mesh.proofs.Lists.{map-append}
+use Rattle.mesh.proofs.Tables.{rows-more}
+use Rattle.tally.specs.declared.worst.Met.{Met}
+use Rattle.tally.specs.declared.worst.Met.the-variants.{Nothing, Worst}
+use Rattle.tally.specs.Kept.{worstWith, orZero, scoreMet}
+use Rattle.tally.proofs.Lists.{those-more}
+use Rattle.tally.proofs.Places.{qualities-more}
+
+-- a worst quality, or none, as the code keeps it
+abbrev pub met : Option Quality → Met
+met none = Nothing
+met (some q) = Worst q
+
+pub worst-more : (qs : List Quality) (q : Quality) → met (worst (qs ++ q ∷ [])) ≡ worstWith (met (worst qs)) q
+unfolding worst
+worst-more [] q = refl
+worst-more (x ∷ xs) q = ap Worst (foldl-append worseOf x xs (q ∷ []))
+
+pub or-zero-of : (w : Option Quality) → orZero (met w) ≡ Option·getD w zeroQuality
+or-zero-of none = refl
+or-zero-of (some q) = refl
+
+pub score-of : (qs : List Quality) → scoreMet (met (worst qs)) ≡ worstScore qs
+unfolding worstScore
+score-of qs = go (worst qs)
+  where
+    go : (w : Option Quality) → scoreMet (met w) ≡ elim w [ none ↦ Marked.NoRows | some q ↦ Marked.Worst (score q) ]
+    go none = refl
+    go (some q) = refl
+
+-- ---- one row more of a table
+
+module _ (f : Row → Quality) (table : List ℕ) (i : ℕ) where
+  -- the worst of the first i rows, with row i
+  pub row-met : worstWith (met (worst (map f (rowsIn table i)))) (f (rowIn table i)) ≡ met (worst (map f (rowsIn table (suc i))))
+  row-met = sym (worst-more (map f (rowsIn table i)) (f (rowIn table i))) ∙ ap (λ qs. met (worst qs)) (sym (qualities-more f table i))
+
+  module _ (p : Row → Bool) where
+    -- the rows that pass among the first i + 1
+    passing : those p (rowsIn table (suc i)) ≡ cond (p (rowIn table i)) (those p (rowsIn table i) ++ rowIn table i ∷ []) (those p (rowsIn table i))
+    passing = ap (those p) (rows-more table i) ∙ those-more p (rowsIn table i) (rowIn table i)
+
+    -- row i passes, so it counts
+    pub passing-met : p (rowIn table i) ≡ true
+        → worstWith (met (worst (map f (those p (rowsIn table i))))) (f (rowIn table i)) ≡ met (worst (map f (those p (rowsIn table (suc i)))))
+    passing-met e =
+        let front = those p (rowsIn table i) in
+        sym (worst-more (map f front) (f (rowIn table i)))
+        ∙ ap (λ qs. met (worst qs)) (sym (map-append f front (rowIn table i ∷ [])))
+        ∙ ap (λ rows. met (worst (map f rows))) (sym (rw e at passing))
+
+    -- row i does not pass, so nothing changes
+    pub other-met : p (rowIn table i) ≡ false → met (worst (map f (those p (rowsIn table i)))) ≡ met (worst (map f (those p (rowsIn table (suc i)))))
+    other-met e = ap (λ rows. met (worst (map f rows))) (sym (rw e at passing))

@@ -1,0 +1,70 @@
+-- What the code keeps while it passes the rows once: the worst, the counts and the sum of badness.
+use Prim.Native.Nat.{_+_, _<_, _^_}
+use mathlib.Core.Bool.{cond}
+use lib.Dec.{eqb}
+use Rattle.measure.specs.declared.Kind.{Kind}
+use Rattle.measure.specs.declared.Kind.the-variants.{Upright, Flat, Inverted}
+use Rattle.measure.specs.declared.Quality.{Quality}
+use Rattle.measure.specs.declared.Octave.the-variants.{Exponent, NoUpright}
+use Rattle.measure.specs.declared.WorstScore.{WorstScore}
+use Rattle.measure.specs.declared.WorstScore.the-variants as Marked
+use Rattle.measure.specs.Limits.{largestByte}
+use Rattle.measure.specs.Measure.{zeroQuality, worseOf}
+use Rattle.measure.specs.Marks.{score, badness, added, octaveOf}
+use Rattle.tally.specs.declared.worst.Met.{Met}
+use Rattle.tally.specs.declared.worst.Met.the-variants.{Nothing, Worst}
+use Rattle.tally.specs.declared.summing.Counts.{Counts}
+use Rattle.tally.specs.declared.summing.Tally.{Tally}
+use Rattle.tally.specs.declared.Summary.{Summary}
+
+-- ---- the worst
+
+-- the worst with one more quality; of equals the earlier one stays
+abbrev pub worstWith : Met → Quality → Met
+worstWith Nothing q = Worst q
+worstWith (Worst w) q = Worst (worseOf w q)
+
+-- the zero quality where nothing was met
+abbrev pub orZero : Met → Quality
+orZero Nothing = zeroQuality
+orZero (Worst q) = q
+
+-- the score of the worst row; a patch with no rows has a mark
+abbrev pub scoreMet : Met → WorstScore
+scoreMet Nothing = Marked.NoRows
+scoreMet (Worst q) = Marked.Worst (score q)
+
+-- ---- everything that a summary needs
+
+-- the counts with one more row of a kind
+abbrev pub countWith : Counts → Kind → Counts
+countWith t Upright = record { upright = t .upright + 1; flat = t .flat; inverted = t .inverted }
+countWith t Flat = record { upright = t .upright; flat = t .flat + 1; inverted = t .inverted }
+countWith t Inverted = record { upright = t .upright; flat = t .flat; inverted = t .inverted + 1 }
+
+-- the tally with one more row's quality
+abbrev pub tallyWith : Tally → Quality → Tally
+tallyWith t q = record {
+  counts = countWith (t .counts) (q .kind);
+  total = t .total + added (badness q);
+  met = worstWith (t .met) q;
+}
+
+-- No count and no sum wraps with one more row.
+pub record Room (t : Tally) (q : Quality) : Type 0 where
+  pub upright : t .counts .upright < largestByte
+  pub flat : t .counts .flat < largestByte
+  pub inverted : t .counts .inverted < largestByte
+  pub total : t .total + added (badness q) < 2 ^ 64
+
+-- the summary of the rows that a tally has passed
+abbrev pub tallied : Tally → Summary
+tallied t =
+    let n = t .counts .upright in
+    record {
+      upright = n;
+      flat = t .counts .flat;
+      inverted = t .counts .inverted;
+      worst = scoreMet (t .met);
+      octave = cond (eqb n 0) NoUpright (Exponent (octaveOf n (t .total)));
+    }
