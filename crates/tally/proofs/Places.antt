@@ -1,19 +1,25 @@
 -- A row of a table by the bytes of its points: a place of the patch is the point read from the coordinates, and the rows that
 -- are measured have their places there.
-use Prim.Native.Nat.{ℕ, suc, _<_}
+use Prim.Native.Nat.{ℕ, suc, _*_, _≤_, _<_}
+use mathlib.Core.Bool.{Bool, true, false, not}
 use mathlib.Core.List.{List, [], _∷_, _++_, map}
 use mathlib.Core.Path.{_≡_, sym, ap, _∙_}
+use lib.Dec.{T}
+use lib.ListN.{length}
+use Rattle.lists.specs.Lists.{every}
 use Rattle.lists.proofs.Lists.{every-at}
 use Rattle.measure.specs.declared.Point.{Point}
 use Rattle.measure.specs.declared.Quality.{Quality}
-use Rattle.measure.specs.Measure.{pointIn, pointsIn, D, quality}
-use Rattle.measure.proofs.Points.{points-at}
+use Rattle.measure.specs.Measure.{pointSize, pointIn, pointsIn, D, quality}
+use Rattle.measure.proofs.Points.{points-length, points-at}
 use Rattle.mesh.specs.declared.Row.{Row}
-use Rattle.mesh.specs.Mesh.{rowIn, rowsIn, numbersFit, noPoint, place, rowD, rowQuality}
+use Rattle.mesh.specs.Keys.{mostRows}
+use Rattle.mesh.specs.Mesh.{rowSize, rowIn, rowsIn, numbersFit, noPoint, place, rowD, rowQuality}
 use Rattle.mesh.proofs.Lists.{map-append}
 use Rattle.mesh.proofs.Tables.{row-among, rows-more}
 use Rattle.mesh.proofs.Rule.{fit-proper}
-use Rattle.tally.specs.Measured.{Placed, Measured}
+use Rattle.block.specs.Answers.{coordinateOver, numberWrong}
+use Rattle.tally.specs.Measured.{patchIn, Placed, Measured}
 
 -- ---- one row, from the four points that the code reads
 
@@ -51,6 +57,29 @@ measured-row {count = count} {table = table} {n = n} m i h =
       below-r = fit .below-r;
       below-s = fit .below-s;
     }
+
+-- what opening shows is enough: answers 6 and 7 are not given
+pub measured-patch :
+    (coordinates : List ℕ) (count : ℕ) (table : List ℕ) (n : ℕ)
+    → pointSize * count ≤ length coordinates
+    → rowSize * n ≤ length table
+    → n ≤ mostRows
+    → T (not (coordinateOver (patchIn coordinates count table n)))
+    → T (not (numberWrong (patchIn coordinates count table n)))
+    → Measured coordinates count table n
+unfolding numberWrong
+measured-patch coordinates count table n points rows most grid numbers =
+    record {
+      points-held = points;
+      rows-held = rows;
+      rows-most = most;
+      on-grid = grid;
+      proper = rw (points-length coordinates count) at (twice-not (every (numbersFit (length (pointsIn coordinates count))) (rowsIn table n)) numbers);
+    }
+  where
+    twice-not : (b : Bool) → T (not (not b)) → T b
+    twice-not true t = tt
+    twice-not false t = t
 
 -- the qualities of one row more
 pub qualities-more :

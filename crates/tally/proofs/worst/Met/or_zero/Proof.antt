@@ -3,7 +3,6 @@ use borrow.Author.Needs.{needs}
 use Rattle.tally.proofs.worst.Met.or_zero.Statement.{statement}
 use Rattle.tally.proofs.worst.Met.or_zero.Tie as tie
 
--- /work/h/w2/target/rlib/measure.rlib/interface/lang/src/volumes.rt:8:45
 enum-told : tie.Need-enum-told
 enum-told c = search needs
 
