@@ -4,10 +4,10 @@ use Prim.Native.Nat.{ℕ, zero, suc, _+_, _*_, _≤_}
 use mathlib.Core.List.{List, [], _∷_, _++_, map, flatMap, append-assoc}
 use mathlib.Core.Path.{_≡_, refl, ap, _∙_}
 use native.Mathlib.Omega.{arith}
-use lib.ListN.{length, take, drop, getD, length-append, length-drop, length-map}
+use lib.ListN.{length, take, drop, getD, length-append, length-drop}
 use lib.Seq.{getD-drop, drop-at, take-add}
 use Rattle.lists.specs.Lists.{numbersFrom}
-use Rattle.lists.proofs.Lists.{numbers-length}
+use Rattle.lists.proofs.Numbers.{map-next, map-numbers-take}
 use Rattle.measure.specs.declared.Point.{Point}
 use Rattle.measure.specs.Measure.{pointSize, pointIn, pointsIn, pointBytes}
 use Rattle.mesh.specs.declared.Row.{Row}
@@ -19,15 +19,6 @@ pub record Cells {R : Type 0} (k : ℕ) (at : List ℕ → ℕ → R) (bytes : R
   pub front : (cell : R) (rest : List ℕ) → at (bytes cell ++ rest) 0 ≡ cell
   pub next : (table : List ℕ) (i : ℕ) → at table (suc i) ≡ at (drop k table) i
   pub whole : (table : List ℕ) → k ≤ length table → bytes (at table 0) ≡ take k table
-
--- the numbers from i + 1 on, and those from i on
-pub map-next : {A : Type 0} (f g : ℕ → A) → ((i : ℕ) → f (suc i) ≡ g i) → (i n : ℕ) → map f (numbersFrom (suc i) n) ≡ map g (numbersFrom i n)
-unfolding numbersFrom
-map-next f g e i zero = refl
-map-next f g e i (suc n) =
-    let first = e i in
-    let rest = map-next f g e (suc i) n in
-    cc
 
 module _ {R : Type 0} {k : ℕ} {at : List ℕ → ℕ → R} {bytes : R → List ℕ} (cells : Cells k at bytes) where
   pub written-length : (rs : List R) → length (flatMap bytes rs) ≡ k * length rs
@@ -68,23 +59,13 @@ byte-next k i j table =
     let e : k * suc i + j ≡ k + (k * i + j) = omega arith in
     rw (e, getD-drop)
 
--- the bytes from 0 to k - 1, one by one
-bytes-front : (k : ℕ) (table : List ℕ) → k ≤ length table → map (λ j. getD table j 0) (numbersFrom 0 k) ≡ take k table
-unfolding numbersFrom
-bytes-front zero table h = refl
-bytes-front (suc k) [] h = absurd (omega arith)
-bytes-front (suc k) (x ∷ table) h =
-    let next = map-next (λ j. getD (x ∷ table) j 0) (λ j. getD table j 0) (λ j. refl) 0 k in
-    let rest = bytes-front k table (omega arith) in
-    ap (λ xs. x ∷ xs) (next ∙ rest)
-
 pub point-cells : Cells pointSize pointIn pointBytes
 unfolding pointIn numbersFrom
 point-cells = record {
   size = λ p. refl;
   front = λ p rest. refl;
   next = λ table i. rw (byte-next 3 i 0 table, byte-next 3 i 1 table, byte-next 3 i 2 table);
-  whole = λ table h. bytes-front 3 table h;
+  whole = λ table h. map-numbers-take 3 table h;
 }
 
 pub row-cells : Cells rowSize rowIn rowBytes
@@ -93,18 +74,8 @@ row-cells = record {
   size = λ row. refl;
   front = λ row rest. refl;
   next = λ table i. rw (byte-next 5 i 0 table, byte-next 5 i 1 table, byte-next 5 i 2 table, byte-next 5 i 3 table, byte-next 5 i 4 table);
-  whole = λ table h. bytes-front 5 table h;
+  whole = λ table h. map-numbers-take 5 table h;
 }
-
--- as many points are read as are asked for
-pub points-length : (coordinates : List ℕ) (n : ℕ) → length (pointsIn coordinates n) ≡ n
-unfolding pointsIn
-points-length coordinates n = simp (length-map, numbers-length)
-
--- as many rows are read as are asked for
-pub rows-length : (table : List ℕ) (n : ℕ) → length (rowsIn table n) ≡ n
-unfolding rowsIn
-rows-length table n = simp (length-map, numbers-length)
 
 -- points and rows, written and read back
 

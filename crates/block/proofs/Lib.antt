@@ -1,4 +1,3 @@
-pub mod Lists
 pub mod Cells
 pub mod SumLaws
 pub mod Refusals

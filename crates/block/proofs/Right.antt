@@ -8,7 +8,9 @@ use borrow.Author.Tests.{eqb-true, ltb-false, le-ltb, eq-eqb, not-false}
 use lib.Dec.{T, eqb, ltb, leb→le, le→leb}
 use lib.ListN.{length, take, drop, replicate}
 use Rattle.lists.specs.Lists.{every, any, same}
-use Rattle.lists.proofs.Tests.{and-l, and-r, and-i, yes-is, is-yes}
+use Rattle.lists.proofs.Tests.{and-l, and-r, and-i, yes-is, is-yes, neither-is}
+use Rattle.lists.proofs.Lists.{none-every, every-none}
+use Rattle.lists.proofs.Numbers.{zeros-e, zeros-i, same-e, same-i}
 use Rattle.measure.specs.declared.Point.{Point}
 use Rattle.measure.specs.Measure.{maxCoordinate, pointSize, pointBytes}
 use Rattle.mesh.specs.Mesh.{rowSize, numbersFit, facesApart, keepsMeshRule, place}
@@ -17,7 +19,6 @@ use Rattle.block.specs.Layout.{pointCount, rowCount, part, fieldsOf, sum
 use Rattle.block.specs.Answers.{firstRefusal, bodyTests, notBlock, sumWrong, versionWrong, countOver, notZero}
 use Rattle.block.specs.Answers.{zeroMissing, coordinateOver, numberWrong, faceTwice, openAnswer}
 use Rattle.block.specs.Within.{onGrid, keepsRule, RightBody, RightBlock}
-use Rattle.block.proofs.Lists.{or-false, none-every, every-none, zeros-e, zeros-i, same-e, same-i}
 use Rattle.block.proofs.Refusals.{passed}
 use Rattle.block.proofs.Parts.{part-length}
 
@@ -45,7 +46,8 @@ apart patch = facesApart (patch .rows)
 
 rule-kept : (patch : Patch) → numberWrong patch ≡ false → faceTwice patch ≡ false → T (keepsRule patch)
 unfolding numberWrong keepsMeshRule
-rule-kept patch e f = and-i (fit patch) (apart patch) (is-yes (fit patch) (not-false (fit patch) e)) (is-yes (apart patch) (not-false (apart patch) f))
+rule-kept patch e f =
+    and-i (fit patch) (apart patch) (is-yes (fit patch) (not-false (fit patch) e)) (is-yes (apart patch) (not-false (apart patch) f))
 
 kept-numbers : (patch : Patch) → T (keepsRule patch) → numberWrong patch ≡ false
 unfolding numberWrong keepsMeshRule
@@ -65,9 +67,9 @@ right-body block h e0 =
     let (a6, e6) = passed 5 (coordinateOver (fieldsOf block)) _ e5 in
     let (a7, e7) = passed 6 (numberWrong (fieldsOf block)) _ e6 in
     let (a8, e8) = passed 7 (faceTwice (fieldsOf block)) _ e7 in
-    let (few-p, few-r) = or-false (ltb maxPoints (pointCount block)) (ltb maxRows (rowCount block)) a4 in
-    let (zero-front, zero-r) = or-false (notZero zerosAt pointsAt block || notZero (pointsAt + pointSize * pointCount block) rowsAt block) _ a5 in
-    let (zero-h, zero-p) = or-false (notZero zerosAt pointsAt block) _ zero-front in
+    let (few-p, few-r) = neither-is (ltb maxPoints (pointCount block)) (ltb maxRows (rowCount block)) a4 in
+    let (zero-front, zero-r) = neither-is (notZero zerosAt pointsAt block || notZero (pointsAt + pointSize * pointCount block) rowsAt block) _ a5 in
+    let (zero-h, zero-p) = neither-is (notZero zerosAt pointsAt block) _ zero-front in
     record {
       version-is = eqb-true _ _ (not-false _ a3);
       few-points = ltb-false maxPoints (pointCount block) few-p;

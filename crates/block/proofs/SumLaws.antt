@@ -11,12 +11,12 @@ use lib.Dec.{T, eqb, lit<}
 use lib.ListN.{length, take, drop, getD, set, drop-of-length-le}
 use lib.Seq.{drop-cons, sets-eq}
 use Rattle.lists.specs.Lists.{every, same, sum, numbersFrom}
+use Rattle.lists.proofs.Numbers.{map-next}
 use Rattle.block.specs.declared.Sums.{Sums}
 use Rattle.block.specs.Layout.{blockBytes, bodyBytes, wrap, byte, sumsOnto, sumsOf, sumBytes, sealed}
 use Rattle.block.specs.Answers.{sumWrong}
 use Rattle.block.specs.PlainSums.{plainFirst, plainSecond}
 use Rattle.block.specs.Within.{isByte}
-use Rattle.block.proofs.Cells.{map-next}
 
 -- the sum of what a first sum that starts at a is after 1, 2 and so on up to all bytes
 abbrev secondFrom : ℕ → List ℕ → ℕ

@@ -9,13 +9,14 @@ use lib.Dec.{T, leb→le, lt→ltb}
 use lib.ListN.{length, drop, replicate, take-append-drop}
 use lib.Seq.{take-all}
 use Rattle.lists.specs.Lists.{every}
+use Rattle.lists.proofs.Tests.{neither-is}
+use Rattle.lists.proofs.Lists.{every-take, every-drop, every-both, every-replicate, every-weaken}
 use Rattle.measure.specs.Measure.{maxCoordinate, pointBytes}
 use Rattle.mesh.specs.Mesh.{rowBytes}
 use Rattle.block.specs.Layout.{Patch, bodyBytes, theVersion, maxPoints, maxRows, pointsAt, rowCount, tableOf}
 use Rattle.block.specs.Layout.{fieldsOf, filled, bodyOf, sumBytes, bytesOf}
 use Rattle.block.specs.Answers.{notBody, notBlock, openAnswer, sealAnswer, sealBytes}
 use Rattle.block.specs.Within.{isByte, onGrid, Within, Kept, Opening, RightBody, Bijection}
-use Rattle.block.proofs.Lists.{or-false, every-take, every-drop, every-both, every-replicate, every-weaken}
 use Rattle.block.proofs.SumLaws.{sum-bytes}
 use Rattle.block.proofs.Refusals.{passed}
 use Rattle.block.proofs.Right.{right-body, right-block, opens}
@@ -61,9 +62,11 @@ bytes-written patch within =
     let rows = patch .rows in
     let small : (x : ℕ) → T (onGrid x) → T (isByte x) = λ x h. lt→ltb x 256 (omega (arith, leb→le x maxCoordinate h)) in
     let head = filled-bytes pointsAt _ (head-bytes (length points) (length rows) (within .few-points) (within .few-rows)) in
-    let coordinates = filled-bytes 192 (flatMap pointBytes points) (every-weaken onGrid isByte small (flatMap pointBytes points) (within .coordinates)) in
+    let coordinates =
+    filled-bytes 192 (flatMap pointBytes points) (every-weaken onGrid isByte small (flatMap pointBytes points) (within .coordinates)) in
     let table = filled-bytes 300 (flatMap rowBytes rows) (within .bytes) in
-    every-both isByte (bodyOf patch) (sumBytes (bodyOf patch)) (every-both isByte _ _ (every-both isByte _ _ head coordinates) table) (sum-bytes (bodyOf patch))
+    every-both isByte (bodyOf patch) (sumBytes (bodyOf patch)) (every-both isByte _ _ (every-both isByte _ _ head coordinates) table)
+    (sum-bytes (bodyOf patch))
 
 -- the fields of a block that opens are within the limits and keep the mesh rule
 pub kept-read : (block : List ℕ) → Opening block → Kept (fieldsOf block)
@@ -100,7 +103,7 @@ pub seal-right : (body out : List ℕ) → sealAnswer body out ≡ 0 → (length
 unfolding sealAnswer
 seal-right body out e =
     let (a1, e1) = passed 0 (notBody body || notBlock out) _ e in
-    let (is-body, is-block) = or-false (notBody body) (notBlock out) a1 in
+    let (is-body, is-block) = neither-is (notBody body) (notBlock out) a1 in
     let size : length body ≡ bodyBytes = eqb-true _ _ (not-false _ is-body) in
     (size, right-body body (omega arith) e1)
 
@@ -113,7 +116,8 @@ seal-written body out e =
     rw (e, same)
 
 -- that block opens, and holds these fields
-pub seal-opens : (body out : List ℕ) → sealAnswer body out ≡ 0 → (openAnswer (sealBytes body out) ≡ 0) × (fieldsOf (sealBytes body out) ≡ fieldsOf body)
+pub seal-opens : (body out : List ℕ) → sealAnswer body out ≡ 0
+    → (openAnswer (sealBytes body out) ≡ 0) × (fieldsOf (sealBytes body out) ≡ fieldsOf body)
 seal-opens body out e =
     let right = seal-right body out e .1 in
     let patch = fieldsOf body in

@@ -10,12 +10,14 @@ use lib.ListN.{length, take, drop, replicate, length-append}
 use lib.Seq.{take-at, drop-at, take-take}
 use Rattle.lists.specs.Lists.{every, any}
 use Rattle.measure.specs.Measure.{maxCoordinate, pointSize, pointBytes}
+use Rattle.measure.proofs.Points.{points-length}
 use Rattle.mesh.specs.Mesh.{rowSize, rowBytes, rowsIn, numbersFit, facesApart}
+use Rattle.mesh.proofs.Tables.{rows-length}
 use Rattle.block.specs.Layout.{Patch, bodyBytes, blockBytes, theVersion, maxPoints, maxRows, zerosAt, pointsAt, rowsAt}
 use Rattle.block.specs.Layout.{version, pointCount, rowCount, part, coordinatesOf, tableOf, fieldsOf, filled, bodyOf, sumBytes, bytesOf}
 use Rattle.block.specs.Answers.{coordinateOver, numberWrong, faceTwice}
 use Rattle.block.specs.Within.{onGrid, keepsRule, RightBody, RightBlock}
-use Rattle.block.proofs.Cells.{point-cells, row-cells, written-length, points-length, rows-length, points-read, rows-read, points-written, rows-written}
+use Rattle.block.proofs.Cells.{point-cells, row-cells, written-length, points-read, rows-read, points-written, rows-written}
 use Rattle.block.proofs.Parts.{filled-length, part-length, part-cut, part-at, zero-behind, filled-behind}
 use Rattle.block.proofs.SumLaws.{sum-bytes-length}
 
@@ -156,7 +158,8 @@ rows-counted block = rows-length (tableOf block) (rowCount block)
 module _ (block : List ℕ) (room : bodyBytes ≤ length block) where
   -- the points and the rows of a block with counts within the limits, written, are the bytes that they were read from
 
-  pub points-bytes : pointCount block ≤ maxPoints → flatMap pointBytes (fieldsOf block .points) ≡ take (pointSize * pointCount block) (coordinatesOf block)
+  pub points-bytes : pointCount block ≤ maxPoints
+      → flatMap pointBytes (fieldsOf block .points) ≡ take (pointSize * pointCount block) (coordinatesOf block)
   unfolding fieldsOf
   points-bytes few = points-written (coordinatesOf block) (pointCount block) (omega (arith, part-length pointsAt rowsAt block (omega arith)))
 
@@ -174,7 +177,8 @@ module _ (block : List ℕ) (room : bodyBytes ≤ length block) where
       ap (any (ltb maxCoordinate)) (points-bytes few ∙ (take-take n 192 (drop 16 block) (omega arith) ∙ ap (λ k. take k (drop 16 block)) (sym e)))
 
 -- the numbers that are tested are those of the rows, against the count
-pub numbers-tested : (block : List ℕ) → numberWrong (fieldsOf block) ≡ not (every (numbersFit (pointCount block)) (rowsIn (tableOf block) (rowCount block)))
+pub numbers-tested : (block : List ℕ)
+    → numberWrong (fieldsOf block) ≡ not (every (numbersFit (pointCount block)) (rowsIn (tableOf block) (rowCount block)))
 unfolding numberWrong fieldsOf
 numbers-tested block = rw points-length
 

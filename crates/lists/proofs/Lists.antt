@@ -1,16 +1,18 @@
--- What the words on lists mean, by the elements that stand in them.
-use Prim.Native.Nat.{ℕ, zero, suc, _+_, _≤_, _<_}
+-- What the words on lists mean, by the elements that stand in them: each, some, those that pass, the first that passes.
+-- Then the same words of lists put together, of parts of a list, and of two tests that go together.
+use Prim.Native.Nat.{ℕ, zero, suc, _+_}
 use mathlib.Core.Bool.{Bool, true, false, cond, not, _&&_, _||_}
-use mathlib.Core.List.{List, [], _∷_, _++_, map, flatMap, List·Memᴰ, List·Memᴰ·head, List·Memᴰ·tail, List·Memᴰ·not-nil, List·Memᴰ·cases-cons}
+use mathlib.Core.List.{List, [], _∷_, _++_, append-nil, foldr, map, List·Memᴰ, List·Memᴰ·head, List·Memᴰ·tail, List·Memᴰ·not-nil}
 use mathlib.Core.Logic.{_⊎_, inl, inr}
-use mathlib.Core.Option.{Option, none, some}
+use mathlib.Core.Option.{Option, none, some, Option·getD}
 use mathlib.Core.Path.{_≡_, refl, sym, ap, _∙_, subst}
-use native.Mathlib.Decide.{decLe, decLt}
 use native.Mathlib.Omega.{arith}
-use lib.Dec.{T, eqb, eqb→eq, eqb-refl, T-not, not-T}
-use lib.ListN.{length, getD, length-append}
-use Rattle.lists.specs.Lists.{every, any, those, first, same, has, different, numbersFrom, largest}
-use Rattle.lists.proofs.Tests.{and-l, and-r, and-i, or-l, or-r, or-e, yes-is, no-is, either}
+use lib.Dec.{T, T-not, not-T}
+use lib.ListN.{length, take, drop, replicate, take-append-drop}
+use Rattle.lists.specs.Lists.{every, any, those, first, firstOr}
+use Rattle.lists.proofs.Tests.{and-l, and-r, and-i, or-l, or-r, or-e, neither-is, no-is, is-no, either, and-true, or-false}
+use Rattle.lists.proofs.Options.{some-is, none-not}
+use Rattle.lists.proofs.Places.{in-cases}
 
 module _ {A : Type 0} where
   -- each element passes
@@ -18,11 +20,7 @@ module _ {A : Type 0} where
   pub every-at : (p : A → Bool) (xs : List A) {x : A} → T (every p xs) → List·Memᴰ x xs → T (p x)
   unfolding every
   every-at p [] h m = absurd (List·Memᴰ·not-nil m)
-  every-at p (y ∷ ys) h m = go (List·Memᴰ·cases-cons m) (every-at p ys (and-r (p y) (every p ys) h))
-    where
-      go : {x : A} → (x ≡ y) ⊎ List·Memᴰ x ys → (List·Memᴰ x ys → T (p x)) → T (p x)
-      go (inl e) f = rw e (and-l (p y) (every p ys) h)
-      go (inr m) f = f m
+  every-at p (y ∷ ys) h m = in-cases m (λ e. rw e (and-l (p y) (every p ys) h)) (every-at p ys (and-r (p y) (every p ys) h))
 
   pub every-i : (p : A → Bool) (xs : List A) → ((x : A) → List·Memᴰ x xs → T (p x)) → T (every p xs)
   unfolding every
@@ -43,11 +41,7 @@ module _ {A : Type 0} where
   pub any-i : (p : A → Bool) (xs : List A) {x : A} → List·Memᴰ x xs → T (p x) → T (any p xs)
   unfolding any
   any-i p [] m h = absurd (List·Memᴰ·not-nil m)
-  any-i p (y ∷ ys) m h = go (List·Memᴰ·cases-cons m) (λ k. any-i p ys k h) h
-    where
-      go : {x : A} → (x ≡ y) ⊎ List·Memᴰ x ys → (List·Memᴰ x ys → T (any p ys)) → T (p x) → T (p y || any p ys)
-      go (inl e) f h = or-l (p y) (any p ys) (rw e at h)
-      go (inr m) f h = or-r (p y) (any p ys) (f m)
+  any-i p (y ∷ ys) m h = in-cases m (λ e. or-l (p y) (any p ys) (rw e at h)) (λ k. or-r (p y) (any p ys) (any-i p ys k h))
 
   pub any-e : (p : A → Bool) (xs : List A) → T (any p xs) → (x : A) × List·Memᴰ x xs × T (p x)
   unfolding any
@@ -57,6 +51,9 @@ module _ {A : Type 0} where
       go (inl k) f = (x, List·Memᴰ·head refl, k)
       go (inr k) f = let r = f k in (r .0, List·Memᴰ·tail (r .1), r .2)
   any-e p [] h = absurd h
+
+  pub none-passes : (p : A → Bool) (xs : List A) → T (not (any p xs)) → {x : A} → List·Memᴰ x xs → T (not (p x))
+  none-passes p xs h {x} m = not-T (p x) (λ t. T-not (any p xs) h (any-i p xs m t))
 
   pub any-append : (p : A → Bool) (xs ys : List A) → any p (xs ++ ys) ≡ any p xs || any p ys
   unfolding any
@@ -74,27 +71,19 @@ module _ {A : Type 0} where
   those-e p [] m = absurd (List·Memᴰ·not-nil m)
   those-e p (y ∷ ys) {x} m = go (p y) refl (λ k. let r = those-e p ys k in (List·Memᴰ·tail (r .0), r .1)) m
     where
-      front : T (p y) → (List·Memᴰ x (those p ys) → List·Memᴰ x (y ∷ ys) × T (p x))
-          → (x ≡ y) ⊎ List·Memᴰ x (those p ys) → List·Memᴰ x (y ∷ ys) × T (p x)
-      front h below (inl e) = (List·Memᴰ·head e, rw e h)
-      front h below (inr m) = below m
-
       go : (b : Bool) → p y ≡ b → (List·Memᴰ x (those p ys) → List·Memᴰ x (y ∷ ys) × T (p x))
           → List·Memᴰ x (cond b (y ∷ those p ys) (those p ys)) → List·Memᴰ x (y ∷ ys) × T (p x)
-      go true e below m = front (rw e tt) below (List·Memᴰ·cases-cons m)
+      go true e below m = in-cases m (λ q. (List·Memᴰ·head q, rw (q, e) tt)) below
       go false e below m = below m
 
   pub those-i : (p : A → Bool) (xs : List A) {x : A} → List·Memᴰ x xs → T (p x) → List·Memᴰ x (those p xs)
   unfolding those
   those-i p [] m h = absurd (List·Memᴰ·not-nil m)
-  those-i p (y ∷ ys) {x} m h = go (p y) refl (λ k. those-i p ys k h) (List·Memᴰ·cases-cons m)
+  those-i p (y ∷ ys) {x} m h = go (p y) refl (λ k. those-i p ys k h)
     where
-      go : (b : Bool) → p y ≡ b → (List·Memᴰ x ys → List·Memᴰ x (those p ys))
-          → (x ≡ y) ⊎ List·Memᴰ x ys → List·Memᴰ x (cond b (y ∷ those p ys) (those p ys))
-      go true e f (inl q) = List·Memᴰ·head q
-      go true e f (inr k) = List·Memᴰ·tail (f k)
-      go false e f (inl q) = absurd (subst T (ap p q ∙ e) h)
-      go false e f (inr k) = f k
+      go : (b : Bool) → p y ≡ b → (List·Memᴰ x ys → List·Memᴰ x (those p ys)) → List·Memᴰ x (cond b (y ∷ those p ys) (those p ys))
+      go true e f = in-cases m List·Memᴰ·head (λ k. List·Memᴰ·tail (f k))
+      go false e f = in-cases m (λ q. absurd (subst T (ap p q ∙ e) h)) f
 
   pub those-append : (p : A → Bool) (xs ys : List A) → those p (xs ++ ys) ≡ those p xs ++ those p ys
   unfolding those
@@ -106,6 +95,16 @@ module _ {A : Type 0} where
       go true e = ap (λ zs. x ∷ zs) e
       go false e = e
 
+  -- one element more
+
+  pub those-yes : (p : A → Bool) (xs : List A) (x : A) → p x ≡ true → those p (xs ++ x ∷ []) ≡ those p xs ++ x ∷ []
+  unfolding those
+  those-yes p xs x e = those-append p xs (x ∷ []) ∙ rw e
+
+  pub those-no : (p : A → Bool) (xs : List A) (x : A) → p x ≡ false → those p (xs ++ x ∷ []) ≡ those p xs
+  unfolding those
+  those-no p xs x e = those-append p xs (x ∷ []) ∙ rw e (append-nil (those p xs))
+
   -- what passes and what does not are the whole list, counted
   pub those-split : (p : A → Bool) (xs : List A) → length (those p xs) + length (those (λ x. not (p x)) xs) ≡ length xs
   unfolding those
@@ -113,7 +112,8 @@ module _ {A : Type 0} where
   those-split p (x ∷ xs) = go (p x) (those-split p xs)
     where
       go : (b : Bool) → length (those p xs) + length (those (λ x. not (p x)) xs) ≡ length xs
-          → length (cond b (x ∷ those p xs) (those p xs)) + length (cond (not b) (x ∷ those (λ x. not (p x)) xs) (those (λ x. not (p x)) xs)) ≡ suc (length xs)
+          → length (cond b (x ∷ those p xs) (those p xs)) + length (cond (not b) (x ∷ those (λ x. not (p x)) xs) (those (λ x. not (p x)) xs))
+          ≡ suc (length xs)
       go true e = omega arith
       go false e = omega arith
 
@@ -121,104 +121,168 @@ module _ {A : Type 0} where
 
   pub first-some : (p : A → Bool) (xs : List A) {x : A} → first p xs ≡ some x → List·Memᴰ x xs × T (p x)
   unfolding first
-  first-some p [] {x} e = absurd (never e)
-    where
-      never : _≡_ {A = Option A} none (some x) → ⊥
-      never e = let z : _≡_ {A = ℕ} 0 1 = cc in omega arith
+  first-some p [] e = absurd (none-not e)
   first-some p (y ∷ ys) {x} e = go (p y) refl (λ k. let r = first-some p ys k in (List·Memᴰ·tail (r .0), r .1)) e
     where
-      here : T (p y) → some y ≡ some x → List·Memᴰ x (y ∷ ys) × T (p x)
-      here h e = let q : x ≡ y = cc in (List·Memᴰ·head q, rw q h)
-
       go : (b : Bool) → p y ≡ b → (first p ys ≡ some x → List·Memᴰ x (y ∷ ys) × T (p x))
           → cond b (some y) (first p ys) ≡ some x → List·Memᴰ x (y ∷ ys) × T (p x)
-      go true q f e = here (rw q tt) e
+      go true q f e = let s = sym (some-is e) in (List·Memᴰ·head s, rw (s, q) tt)
       go false q f e = f e
 
   pub first-none : (p : A → Bool) (xs : List A) → first p xs ≡ none → {x : A} → List·Memᴰ x xs → T (not (p x))
   unfolding first
   first-none p [] e m = absurd (List·Memᴰ·not-nil m)
-  first-none p (y ∷ ys) e {x} m = go (p y) refl (λ k n. first-none p ys k n) e (List·Memᴰ·cases-cons m)
+  first-none p (y ∷ ys) e {x} m = go (p y) refl (λ k n. first-none p ys k n) e
     where
-      never : {z : A} → _≡_ {A = Option A} (some z) none → ⊥
-      never e = let z : _≡_ {A = ℕ} 0 1 = cc in omega arith
+      go : (b : Bool) → p y ≡ b → (first p ys ≡ none → List·Memᴰ x ys → T (not (p x))) → cond b (some y) (first p ys) ≡ none → T (not (p x))
+      go true q f e = absurd (none-not (sym e))
+      go false q f e = in-cases m (λ s. rw (s, q) tt) (f e)
 
-      go : (b : Bool) → p y ≡ b → (first p ys ≡ none → List·Memᴰ x ys → T (not (p x)))
-          → cond b (some y) (first p ys) ≡ none → (x ≡ y) ⊎ List·Memᴰ x ys → T (not (p x))
-      go true q f e m = absurd (never e)
-      go false q f e (inl s) = rw (s, q) tt
-      go false q f e (inr k) = f e k
+  -- where one passes, the first that passes is one
+  pub first-found : (d : A) (p : A → Bool) (xs : List A) → T (any p xs) → List·Memᴰ (firstOr d p xs) xs × T (p (firstOr d p xs))
+  first-found d p xs h = go (first p xs) refl
+    where
+      go : (o : Option A) → first p xs ≡ o → List·Memᴰ (Option·getD o d) xs × T (p (Option·getD o d))
+      go (some x) e = first-some p xs e
+      go none e = let r = any-e p xs h in absurd (T-not (p (r .0)) (first-none p xs e (r .1)) (r .2))
 
--- a number that stands in a list, as a test and as a place
+module _ {A : Type 0} where
+  -- a statement of each element, as data
+  abbrev pub All : (A → Type 0) → List A → Type 0
+  All P [] = Unit {0}
+  All P (x ∷ xs) = P x × All P xs
 
-pub has-i : (ns : List ℕ) {n : ℕ} → List·Memᴰ n ns → T (has ns n)
-has-i ns {n} m = any-i (eqb n) ns m (eqb-refl n)
+  pub each : (P : A → Type 0) (xs : List A) → All P xs → (x : A) → List·Memᴰ x xs → P x
+  each P [] h x m = absurd (List·Memᴰ·not-nil m)
+  each P (y ∷ ys) h x m = in-cases m (λ e. rw e (h .0)) (each P ys (h .1) x)
 
-pub has-e : (ns : List ℕ) (n : ℕ) → T (has ns n) → List·Memᴰ n ns
-has-e ns n h = let r = any-e (eqb n) ns h in subst (λ k. List·Memᴰ k ns) (sym (eqb→eq n (r .0) (r .2))) (r .1)
+-- one test, of lists and of parts of them
 
--- the numbers from i on
+module _ {A : Type 0} (p : A → Bool) where
+  pub every-cons : (x : A) (xs : List A) → T (p x) → T (every p xs) → T (every p (x ∷ xs))
+  unfolding every
+  every-cons x xs h k = and-i (p x) (every p xs) h k
 
-pub numbers-e : (i n : ℕ) {k : ℕ} → List·Memᴰ k (numbersFrom i n) → (i ≤ k) × (k < i + n)
-unfolding numbersFrom
-numbers-e i zero m = absurd (List·Memᴰ·not-nil m)
-numbers-e i (suc n) {k} m = go (λ m. numbers-e (suc i) n m) (List·Memᴰ·cases-cons m)
-  where
-    go : (List·Memᴰ k (numbersFrom (suc i) n) → (suc i ≤ k) × (k < suc i + n))
-        → (k ≡ i) ⊎ List·Memᴰ k (numbersFrom (suc i) n) → (i ≤ k) × (k < i + suc n)
-    go f (inl e) = (omega arith, omega arith)
-    go f (inr m) = let r = f m in (omega (arith, r .0), omega (arith, r .1))
+  pub every-both : (xs ys : List A) → T (every p xs) → T (every p ys) → T (every p (xs ++ ys))
+  every-both xs ys h k = rw (every-append p xs ys) (and-i (every p xs) (every p ys) h k)
 
-pub numbers-i : (i n k : ℕ) → i ≤ k → k < i + n → List·Memᴰ k (numbersFrom i n)
-unfolding numbersFrom
-numbers-i i zero k h l = absurd (omega arith)
-numbers-i i (suc n) k h l = go (decLt i k) (numbers-i (suc i) n k)
-  where
-    go : Dec (i < k) → (suc i ≤ k → k < suc i + n → List·Memᴰ k (numbersFrom (suc i) n)) → List·Memᴰ k (i ∷ numbersFrom (suc i) n)
-    go (yes c) f = List·Memᴰ·tail (f c (omega arith))
-    go (no c) f =
-        let e : k ≡ i = omega arith in
-        List·Memᴰ·head e
+  pub every-snoc : (xs : List A) (x : A) → every p (xs ++ x ∷ []) ≡ every p xs && p x
+  unfolding every
+  every-snoc xs x = every-append p xs (x ∷ []) ∙ ap (λ b. every p xs && b) (and-true (p x))
 
-pub numbers-length : (i n : ℕ) → length (numbersFrom i n) ≡ n
-unfolding numbersFrom
-numbers-length i zero = refl
-numbers-length i (suc n) = ap suc (numbers-length (suc i) n)
+  pub any-snoc : (xs : List A) (x : A) → any p (xs ++ x ∷ []) ≡ any p xs || p x
+  unfolding any
+  any-snoc xs x = any-append p xs (x ∷ []) ∙ ap (λ b. any p xs || b) (or-false (p x))
 
-pub numbers-at : (i n j d : ℕ) → j < n → getD (numbersFrom i n) j d ≡ i + j
-unfolding numbersFrom
-numbers-at i zero j d h = absurd (omega arith)
-numbers-at i (suc n) zero d h = omega arith
-numbers-at i (suc n) (suc j) d h = let r = numbers-at (suc i) n j d (omega arith) in omega arith
+  split : (n : ℕ) (xs : List A) → T (every p xs) → T (every p (take n xs) && every p (drop n xs))
+  split n xs h = subst T (ap (every p) (sym (take-append-drop n xs)) ∙ every-append p (take n xs) (drop n xs)) h
 
--- the largest number that passes
+  pub every-take : (n : ℕ) (xs : List A) → T (every p xs) → T (every p (take n xs))
+  every-take n xs h = and-l (every p (take n xs)) (every p (drop n xs)) (split n xs h)
 
-pub largest-within : (p : ℕ → Bool) (n : ℕ) → largest p n ≤ n
-unfolding largest
-largest-within p zero = omega arith
-largest-within p (suc n) = go (p (suc n)) (largest-within p n)
-  where
-    go : (b : Bool) → largest p n ≤ n → cond b (suc n) (largest p n) ≤ suc n
-    go true h = omega arith
-    go false h = omega arith
+  pub every-drop : (n : ℕ) (xs : List A) → T (every p xs) → T (every p (drop n xs))
+  every-drop n xs h = and-r (every p (take n xs)) (every p (drop n xs)) (split n xs h)
 
-pub largest-passes : (p : ℕ → Bool) (n : ℕ) → T (p 0) → T (p (largest p n))
-unfolding largest
-largest-passes p zero h = h
-largest-passes p (suc n) h = go (p (suc n)) refl (largest-passes p n h)
-  where
-    go : (b : Bool) → p (suc n) ≡ b → T (p (largest p n)) → T (p (cond b (suc n) (largest p n)))
-    go true e k = rw e tt
-    go false e k = k
+  pub every-those : (q : A → Bool) (xs : List A) → T (every p xs) → T (every p (those q xs))
+  every-those q xs h = every-i p (those q xs) (λ x m. every-at p xs h (those-e q xs m .0))
 
-pub largest-above : (p : ℕ → Bool) (n k : ℕ) → k ≤ n → T (p k) → k ≤ largest p n
-unfolding largest
-largest-above p zero k l h = l
-largest-above p (suc n) k l h = go (p (suc n)) refl (decLe k n) (λ c. largest-above p n k c h)
-  where
-    go : (b : Bool) → p (suc n) ≡ b → Dec (k ≤ n) → (k ≤ n → k ≤ largest p n) → k ≤ cond b (suc n) (largest p n)
-    go true e c f = l
-    go false e (yes c) f = f c
-    go false e (no c) f =
-        let q : k ≡ suc n = omega arith in
-        absurd (subst T (ap p q ∙ e) h)
+  pub every-replicate : (n : ℕ) (x : A) → T (p x) → T (every p (replicate n x))
+  unfolding every
+  every-replicate zero x h = tt
+  every-replicate (suc n) x h = and-i (p x) (every p (replicate n x)) h (every-replicate n x h)
+
+  -- one element that does not pass is enough
+  pub every-no : (xs : List A) {x : A} → List·Memᴰ x xs → p x ≡ false → every p xs ≡ false
+  every-no xs m e = go (either (every p xs))
+    where
+      go : T (every p xs) ⊎ T (not (every p xs)) → every p xs ≡ false
+      go (inl h) = absurd (rw e at (every-at p xs h m))
+      go (inr h) = no-is (every p xs) h
+
+  -- a test of each is a conjunction
+  pub every-all : (xs : List A) → every p xs ≡ foldr _&&_ true (map p xs)
+  unfolding every
+  every-all [] = refl
+  every-all (x ∷ xs) = ap (λ b. p x && b) (every-all xs)
+
+  -- where one passes, the list parts there
+  pub any-split : (xs : List A) → T (any p xs) → (x : A) × (front back : List A) × (xs ≡ front ++ x ∷ back) × T (p x)
+  unfolding any
+  any-split [] h = absurd h
+  any-split (x ∷ xs) h = go (or-e (p x) (any p xs) h) (any-split xs)
+    where
+      go : T (p x) ⊎ T (any p xs) → (T (any p xs) → (y : A) × (front back : List A) × (xs ≡ front ++ y ∷ back) × T (p y))
+          → (y : A) × (front back : List A) × (x ∷ xs ≡ front ++ y ∷ back) × T (p y)
+      go (inl k) f = (x, [], xs, refl, k)
+      go (inr k) f = let r = f k in (r .0, x ∷ r .1, r .2, ap (λ ys. x ∷ ys) (r .3), r .4)
+
+-- a list looked through from the front: the element in hand decides, or those after it do
+
+module _ {A : Type 0} (p : A → Bool) {x : A} {xs rest : List A} (e : xs ≡ x ∷ rest) where
+  pub any-here : p x ≡ true → any p xs ≡ true
+  unfolding any
+  any-here h = rw (e, h)
+
+  pub any-later : p x ≡ false → any p xs ≡ any p rest
+  unfolding any
+  any-later h = rw (e, h)
+
+  pub every-here : p x ≡ false → every p xs ≡ false
+  unfolding every
+  every-here h = rw (e, h)
+
+  pub every-later : p x ≡ true → every p xs ≡ every p rest
+  unfolding every
+  every-later h = rw (e, h)
+
+-- two tests that go together
+
+module _ {A : Type 0} (p q : A → Bool) where
+  pub every-same : (xs : List A) → ((x : A) → List·Memᴰ x xs → p x ≡ q x) → every p xs ≡ every q xs
+  unfolding every
+  every-same [] f = refl
+  every-same (x ∷ xs) f = rw (f x (List·Memᴰ·head refl), every-same xs (λ y m. f y (List·Memᴰ·tail m)))
+
+  pub any-same : (xs : List A) → ((x : A) → List·Memᴰ x xs → p x ≡ q x) → any p xs ≡ any q xs
+  unfolding any
+  any-same [] f = refl
+  any-same (x ∷ xs) f = rw (f x (List·Memᴰ·head refl), any-same xs (λ y m. f y (List·Memᴰ·tail m)))
+
+  -- a test in other words lets the same elements pass
+  pub those-same : ((x : A) → p x ≡ q x) → (xs : List A) → those p xs ≡ those q xs
+  unfolding those
+  those-same f [] = refl
+  those-same f (x ∷ xs) = rw (f x, those-same f xs)
+
+  pub any-or : (xs : List A) → any (λ x. p x || q x) xs ≡ any p xs || any q xs
+  unfolding any
+  any-or [] = refl
+  any-or (x ∷ xs) = rw (any-or xs) (go (p x) (q x) (any p xs) (any q xs))
+    where
+      go : (a b c d : Bool) → (a || b) || (c || d) ≡ (a || c) || (b || d)
+      go true b c d = refl
+      go false true true d = refl
+      go false true false d = refl
+      go false false c d = refl
+
+  -- a weaker test
+  pub every-weaken : ((x : A) → T (p x) → T (q x)) → (xs : List A) → T (every p xs) → T (every q xs)
+  every-weaken f xs h = every-i q xs (λ x m. f x (every-at p xs h m))
+
+  -- no element passes one test: each passes the other
+  pub none-every : ((x : A) → p x ≡ false → T (q x)) → (xs : List A) → any p xs ≡ false → T (every q xs)
+  unfolding any every
+  none-every f [] e = tt
+  none-every f (x ∷ xs) e =
+      let both = neither-is (p x) (any p xs) e in
+      and-i (q x) (every q xs) (f x (both .0)) (none-every f xs (both .1))
+
+  -- each element passes one test: none passes the other
+  pub every-none : ((x : A) → T (q x) → p x ≡ false) → (xs : List A) → T (every q xs) → any p xs ≡ false
+  unfolding any every
+  every-none f [] h = refl
+  every-none f (x ∷ xs) h = rw (f x (and-l (q x) (every q xs) h), every-none f xs (and-r (q x) (every q xs) h))
+
+-- none passes where each does not
+pub not-any : {A : Type 0} (p : A → Bool) (xs : List A) → T (every (λ x. not (p x)) xs) → T (not (any p xs))
+not-any p xs h = is-no (any p xs) (every-none p (λ x. not (p x)) (λ x. no-is (p x)) xs h)

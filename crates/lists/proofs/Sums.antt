@@ -1,12 +1,12 @@
--- A list with no repetition whose elements all stand in another list of the same length has the same sum: one element
--- after another is taken out of the other list.
-use Prim.Native.Nat.{ℕ, zero, suc, _≤_}
-use mathlib.Core.List.{List, [], _∷_, map, foldr, List·Memᴰ, List·Memᴰ·head, List·Memᴰ·tail, List·Memᴰ·not-nil, List·Memᴰ·cases-cons}
-use mathlib.Core.Logic.{_⊎_, inl, inr}
+-- Sums over lists. A list with no repetition whose elements all stand in another list of the same length has the same sum:
+-- one element after another is taken out of the other list.
+use Prim.Native.Nat.{suc, _≤_}
+use mathlib.Core.List.{List, [], _∷_, _++_, map, foldr, List·Memᴰ, List·Memᴰ·head, List·Memᴰ·tail}
 use mathlib.Core.Path.{_≡_, refl, sym, ap, _∙_}
 use native.Mathlib.Omega.{arith}
-use lib.IntN.{ℤ, pos, _+ℤ_, +ℤ-assoc, +ℤ-comm}
+use lib.IntN.{ℤ, pos, _+ℤ_, +ℤ-idl, +ℤ-assoc, +ℤ-comm}
 use lib.ListN.{length}
+use Rattle.lists.proofs.Places.{in-cases}
 
 module _ {A : Type 0} where
   -- the list without the element that stands at a place
@@ -22,16 +22,8 @@ module _ {A : Type 0} where
   -- another element still stands there
   without-keeps : {x z : A} (xs : List A) (m : List·Memᴰ x xs) → (z ≡ x → ⊥) → List·Memᴰ z xs → List·Memᴰ z (without xs m)
   unfolding without
-  without-keeps {x} {z} (y ∷ ys) (List·Memᴰ·head e) ne n = go (List·Memᴰ·cases-cons n)
-    where
-      go : (z ≡ y) ⊎ List·Memᴰ z ys → List·Memᴰ z ys
-      go (inl q) = absurd (ne (q ∙ sym e))
-      go (inr k) = k
-  without-keeps {x} {z} (y ∷ ys) (List·Memᴰ·tail m) ne n = go (List·Memᴰ·cases-cons n) (without-keeps ys m ne)
-    where
-      go : (z ≡ y) ⊎ List·Memᴰ z ys → (List·Memᴰ z ys → List·Memᴰ z (without ys m)) → List·Memᴰ z (y ∷ without ys m)
-      go (inl q) f = List·Memᴰ·head q
-      go (inr k) f = List·Memᴰ·tail (f k)
+  without-keeps (y ∷ ys) (List·Memᴰ·head e) ne n = in-cases n (λ q. absurd (ne (q ∙ sym e))) (λ k. k)
+  without-keeps (y ∷ ys) (List·Memᴰ·tail m) ne n = in-cases n List·Memᴰ·head (λ k. List·Memᴰ·tail (without-keeps ys m ne k))
 
   -- no element stands twice
   pub data Single : List A → Type 0 where
@@ -42,6 +34,10 @@ module _ {A : Type 0} where
     -- the sum of f over a list
     abbrev pub sumOver : List A → ℤ
     sumOver xs = foldr _+ℤ_ (pos 0) (map f xs)
+
+    pub sum-append : (xs ys : List A) → sumOver (xs ++ ys) ≡ sumOver xs +ℤ sumOver ys
+    sum-append [] ys = sym (+ℤ-idl (sumOver ys))
+    sum-append (x ∷ xs) ys = ap (λ t. f x +ℤ t) (sum-append xs ys) ∙ sym (+ℤ-assoc (f x) (sumOver xs) (sumOver ys))
 
     sum-without : {x : A} (xs : List A) (m : List·Memᴰ x xs) → sumOver xs ≡ f x +ℤ sumOver (without xs m)
     unfolding without

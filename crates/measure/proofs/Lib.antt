@@ -5,7 +5,6 @@ pub mod Bounds
 pub mod Machine
 pub mod Computed
 pub mod Points
-pub mod Lists
 pub mod Order
 pub mod Sides
 pub mod Scores

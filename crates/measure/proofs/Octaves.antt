@@ -12,13 +12,12 @@ use lib.Dec.{T, leb, leb→le, le→leb}
 use borrow.Author.Tests.{eq-eqb, ne-eqb}
 use lib.ListN.{length}
 use Rattle.lists.specs.Lists.{count, those}
-use Rattle.lists.proofs.Lists.{largest-within, largest-passes, largest-above}
 use Rattle.lists.proofs.Tests.{is-yes, is-no}
+use Rattle.lists.proofs.Numbers.{largest-within, largest-passes, largest-above, largest-over}
 use Rattle.measure.specs.declared.Quality.{Quality}
 use Rattle.measure.specs.declared.Octave.the-variants.{Exponent, NoUpright}
 use Rattle.measure.specs.Measure.{isUpright}
 use Rattle.measure.specs.Marks.{badness, added, totalBadness, octaveLimit, octaveOf, octave}
-use Rattle.measure.proofs.Lists.{largest-over}
 use Rattle.measure.proofs.Proper.{Proper, upright-size}
 use Rattle.measure.proofs.Badnesses.{badness-other, badness-within, badness-over}
 

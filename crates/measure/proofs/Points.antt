@@ -1,13 +1,14 @@
 -- The points in some coordinates: how many, which is the i-th, and that the first n lie in the first 3·n bytes.
-use Prim.Native.Nat.{ℕ, zero, suc, _+_, _*_, _<_}
-use mathlib.Core.List.{List, [], _∷_, map}
-use mathlib.Core.Path.{_≡_, refl, sym, ap, _∙_}
+use Prim.Native.Nat.{ℕ, _+_, _*_, _<_}
+use mathlib.Core.List.{List}
+use mathlib.Core.Path.{_≡_, refl, sym, _∙_}
 use native.Mathlib.Nat.{add-zero}
 use native.Mathlib.Omega.{arith}
-use lib.ListN.{length, getD, take, length-map}
-use lib.Seq.{ext-getD, getD-take}
+use lib.ListN.{length, getD, take}
+use lib.Seq.{getD-take}
 use Rattle.lists.specs.Lists.{numbersFrom}
-use Rattle.lists.proofs.Lists.{numbers-length, numbers-at}
+use Rattle.lists.proofs.Images.{map-same}
+use Rattle.lists.proofs.Numbers.{numbers-e, map-numbers-length, map-numbers-at}
 use Rattle.measure.specs.declared.Point.{Point}
 use Rattle.measure.specs.Measure.{pointIn, pointsIn, pointSize}
 
@@ -23,23 +24,13 @@ point-at bytes i = rw (add-zero (3 * i)) refl
 
 -- ---- the first n points
 
-map-at : {A B : Type 0} (f : A → B) (xs : List A) (i : ℕ) (d : A) (e : B) → i < length xs → getD (map f xs) i e ≡ f (getD xs i d)
-map-at f [] i d e h = absurd (omega arith)
-map-at f (x ∷ xs) zero d e h = refl
-map-at f (x ∷ xs) (suc i) d e h = map-at f xs i d e (omega arith)
-
 pub points-length : (bytes : List ℕ) (n : ℕ) → length (pointsIn bytes n) ≡ n
 unfolding pointsIn
-points-length bytes n = length-map (numbersFrom 0 n) (pointIn bytes) ∙ numbers-length 0 n
+points-length bytes n = map-numbers-length (pointIn bytes) n
 
 pub points-at : (bytes : List ℕ) (n i : ℕ) (e : Point) → i < n → getD (pointsIn bytes n) i e ≡ pointIn bytes i
 unfolding pointsIn
-points-at bytes n i e h =
-    map-at (pointIn bytes) (numbersFrom 0 n) i 0 e (rw (numbers-length 0 n) h)
-    ∙ ap (pointIn bytes) (numbers-at 0 n i 0 h ∙ zero-plus i)
-  where
-    zero-plus : (i : ℕ) → 0 + i ≡ i
-    zero-plus i = omega arith
+points-at bytes n i e h = map-numbers-at (pointIn bytes) n i e h
 
 -- ---- the bytes they lie in
 
@@ -58,19 +49,9 @@ module _
       ∙ point-at others i
 
   pub points-same : pointsIn bytes n ≡ pointsIn others n
+  unfolding pointsIn
   points-same =
-      ext-getD
-      origin
-      (pointsIn bytes n)
-      (pointsIn others n)
-      (points-length bytes n ∙ sym (points-length others n))
-      (λ i h. at i (rw (points-length bytes n) at h))
-    where
-      origin : Point
-      origin = record { x = 0; y = 0; z = 0 }
-
-      at : (i : ℕ) → i < n → getD (pointsIn bytes n) i origin ≡ getD (pointsIn others n) i origin
-      at i h = points-at bytes n i origin h ∙ point-same i h ∙ sym (points-at others n i origin h)
+      map-same (pointIn bytes) (pointIn others) (numbersFrom 0 n) (λ i m. point-same i (omega (arith, numbers-e 0 n m .1)))
 
 -- the first 3·n bytes alone have the first n points
 pub points-of-front : (bytes : List ℕ) (n : ℕ) → pointsIn (take (pointSize * n) bytes) n ≡ pointsIn bytes n

@@ -11,8 +11,8 @@ use native.Mathlib.Omega.{arith}
 use lib.Dec.{T, leb, leb→le, le→leb}
 use Rattle.exact.proofs.Laws.{at-most-trans}
 use Rattle.lists.specs.Lists.{largest}
-use Rattle.lists.proofs.Lists.{largest-within, largest-passes, largest-above}
 use Rattle.lists.proofs.Tests.{yes-is, no-is}
+use Rattle.lists.proofs.Numbers.{largest-within, largest-passes, largest-above}
 use Rattle.measure.specs.declared.Quality.{Quality}
 use Rattle.measure.specs.declared.WorstScore.the-variants.{Worst}
 use Rattle.measure.specs.Measure.{isUpright, worst, asGood}

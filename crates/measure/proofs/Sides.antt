@@ -1,7 +1,7 @@
 -- The order of signed fractions by two orders of sizes: q is worse than r where it is less far over 0, or farther below.
 -- Of each product only the sign matters; the nine pairs of kinds are then the sides of 0.
 use Prim.Native.Nat.{ℕ, zero, suc, _*_, _≤_}
-use mathlib.Core.Bool.{Bool, true, false, cond, not, _||_}
+use mathlib.Core.Bool.{false, cond, not, _||_}
 use mathlib.Core.Path.{_≡_, refl, sym, subst}
 use native.Mathlib.Nat.{le-antisymm, zero-mul}
 use native.Mathlib.Omega.{arith}
@@ -10,6 +10,7 @@ use lib.IntN.{pos, negℤ, _*ℤ_}
 use lib.Signed.{ltZ}
 use borrow.Author.Tests.{lt-ltb, le-ltb}
 use Rattle.algebra.proofs.Ring.{neg-mul}
+use Rattle.lists.proofs.Tests.{neither-l, neither-r, or-false, or-true}
 use Rattle.exact.specs.Fractions.{isLess}
 use Rattle.measure.specs.declared.Kind.{Kind}
 use Rattle.measure.specs.declared.Kind.the-variants.{Upright, Flat, Inverted}
@@ -24,19 +25,9 @@ over q = cond (isUpright q) (q .num) 0
 abbrev pub under : Quality → ℕ
 under q = cond (isInverted q) (q .num) 0
 
--- ---- tests
-
 -- nothing is less than 0 of something
 nothing : (a b d : ℕ) → isLess a b 0 d ≡ false
 nothing a b d = le-ltb (a * d) (0 * b) (omega arith)
-
-or-no : (x : Bool) {y : Bool} → y ≡ false → x ≡ x || y
-or-no true e = refl
-or-no false e = sym e
-
-or-yes : (x : Bool) {y : Bool} → y ≡ true → x || y ≡ true
-or-yes true e = refl
-or-yes false e = e
 
 -- ---- signs
 
@@ -51,8 +42,8 @@ over-below x zero = le-ltb x 0 (omega arith)
 over-below x (suc y) = refl
 
 below-over : (x y : ℕ) → ltZ (negℤ (pos x)) (pos y) ≡ ltb 0 y || ltb 0 x
-below-over zero y = or-no (ltb 0 y) refl
-below-over (suc x) y = sym (or-yes (ltb 0 y) (lt-ltb 0 (suc x) (omega arith)))
+below-over zero y = sym (or-false (ltb 0 y))
+below-over (suc x) y = rw (lt-ltb 0 (suc x) (omega arith), or-true (ltb 0 y))
 
 -- ---- the nine pairs of kinds
 
@@ -62,11 +53,11 @@ sides :
     → let q : Quality = record { kind = k; num = a; den = b } in
     let r : Quality = record { kind = l; num = c; den = d } in
     ltZ (signed q *ℤ pos d) (signed r *ℤ pos b) ≡ isLess (over q) b (over r) d || isLess (under r) d (under q) b
-sides Upright Upright a b c d = or-no (isLess a b c d) (nothing 0 d b)
-sides Upright Flat a b c d = or-no (isLess a b 0 d) (nothing 0 d b)
+sides Upright Upright a b c d = rw (nothing 0 d b, or-false (isLess a b c d))
+sides Upright Flat a b c d = rw (nothing 0 d b, or-false (isLess a b 0 d))
 sides Upright Inverted a b c d = simp (neg-mul, over-below, nothing a b d, nothing c d b)
-sides Flat Upright a b c d = or-no (isLess 0 b c d) (nothing 0 d b)
-sides Flat Flat a b c d = or-no (isLess 0 b 0 d) (nothing 0 d b)
+sides Flat Upright a b c d = rw (nothing 0 d b, or-false (isLess 0 b c d))
+sides Flat Flat a b c d = rw (nothing 0 d b, or-false (isLess 0 b 0 d))
 sides Flat Inverted a b c d = simp (neg-mul, over-below, nothing 0 b d, nothing c d b)
 sides Inverted Upright a b c d = simp (neg-mul, below-over, zero-mul)
 sides Inverted Flat a b c d = simp (neg-mul, below-over, zero-mul)
@@ -80,19 +71,12 @@ worse-is q r = sides (q .kind) (r .kind) (q .num) (q .den) (r .num) (r .den)
 
 -- ---- the order of the sizes
 
-neither : (a b : Bool) {c : Bool} → c ≡ a || b → T (not c) → T (not a) × T (not b)
-neither true b e h = absurd (subst (λ c. T (not c)) e h)
-neither false b e h = (tt, subst (λ c. T (not c)) e h)
-
 pub at-most-sides : {q r : Quality} → q ⊑ r → (over q * r .den ≤ over r * q .den) × (under r * q .den ≤ under q * r .den)
 at-most-sides {q} {r} h =
-    let t =
-    neither
-    (isLess (over r) (r .den) (over q) (q .den))
-    (isLess (under q) (q .den) (under r) (r .den))
-    (worse-is r q)
-    (h .not-worse) in
-    (nltb→le (over r * q .den) (over q * r .den) (t .0), nltb→le (under q * r .den) (under r * q .den) (t .1))
+    let o = isLess (over r) (r .den) (over q) (q .den) in
+    let u = isLess (under q) (q .den) (under r) (r .den) in
+    let t : T (not (o || u)) = subst (λ c. T (not c)) (worse-is r q) (h .not-worse) in
+    (nltb→le (over r * q .den) (over q * r .den) (neither-l o u t), nltb→le (under q * r .den) (under r * q .den) (neither-r o u t))
 
 -- one fraction: the same sizes on both sides
 pub same-sides : {q r : Quality} → q ≈ r → (over q * r .den ≡ over r * q .den) × (under q * r .den ≡ under r * q .den)

@@ -1,16 +1,18 @@
 -- Tables with the same tetrahedra, up to even rearrangement and row order: row by row, each row of one has its own row in the other.
 -- So a total over the rows in any order, with a value that even rearrangement keeps, is one for both, and so is the mesh rule.
 use Prim.Native.Nat.{ℕ, _+_}
-use mathlib.Core.Bool.{Bool, true, false, _&&_}
+use mathlib.Core.Bool.{true, _&&_}
 use mathlib.Core.List.{List, [], _∷_, _++_, map, foldr}
 use mathlib.Core.Path.{_≡_, refl, sym, ap, _∙_}
 use native.Mathlib.Omega.{arith}
 use lib.Dec.{T}
 use Rattle.lists.specs.Lists.{those, count}
+use Rattle.lists.proofs.Tests.{and-swap}
+use Rattle.lists.proofs.Counts.{ind, ind-yes, count-cons, count-append, count-sum, some-counted}
+use Rattle.lists.proofs.Lists.{any-split, every-all}
 use Rattle.mesh.specs.declared.Row.{Row}
 use Rattle.mesh.specs.Mesh.{Face, uses, numbersFit, keepsMeshRule}
 use Rattle.mesh.specs.Tetrahedra.{rearranged, SameTetrahedra}
-use Rattle.mesh.proofs.Lists.{ind, ind-yes, any-split, count-cons, count-append, count-sum, some-counted, every-all}
 use Rattle.mesh.proofs.Counted.{hits, apart-same}
 use Rattle.mesh.proofs.Evenly.{even-uses, even-fits}
 use Rattle.mesh.proofs.Places.{even-refl, even-same}
@@ -46,7 +48,8 @@ same-alike (t ∷ ts) others e =
 -- a total over the rows, in any order
 module _ {M : Type 0} (op : M → M → M) (none : M) (swap : (a b c : M) → op a (op b c) ≡ op b (op a c)) (value : Row → M)
     (kept : (t u : Row) → T (rearranged t u) → value t ≡ value u) where
-  total-at : (u : Row) (front back : List Row) → foldr op none (map value (front ++ u ∷ back)) ≡ op (value u) (foldr op none (map value (front ++ back)))
+  total-at : (u : Row) (front back : List Row)
+      → foldr op none (map value (front ++ u ∷ back)) ≡ op (value u) (foldr op none (map value (front ++ back)))
   total-at u [] back = refl
   total-at u (t ∷ front) back =
       ap (op (value t)) (total-at u front back) ∙ swap (value t) (value u) (foldr op none (map value (front ++ back)))
@@ -65,11 +68,6 @@ module _ {M : Type 0} (op : M → M → M) (none : M) (swap : (a b c : M) → op
 add-swap : (a b c : ℕ) → a + (b + c) ≡ b + (a + c)
 add-swap a b c = omega arith
 
-and-swap : (a b c : Bool) → a && (b && c) ≡ b && (a && c)
-and-swap true b c = refl
-and-swap false true c = refl
-and-swap false false c = refl
-
 pub alike-hits : (rows others : List Row) → Alike rows others → (f : Face) → hits f rows ≡ hits f others
 alike-hits rows others e f =
     count-sum (uses f) rows
@@ -79,8 +77,9 @@ alike-hits rows others e f =
 pub alike-keeps : (count : ℕ) (rows others : List Row) → Alike rows others → keepsMeshRule count rows ≡ keepsMeshRule count others
 unfolding keepsMeshRule
 alike-keeps count rows others e =
-    let fit = every-all (numbersFit count) rows ∙ alike-total _&&_ true and-swap (numbersFit count) (even-fits count) rows others e ∙ sym (every-all (numbersFit count) others) in
-    rw (fit, apart-same rows others (alike-hits rows others e))
+    let fit = numbersFit count in
+    let all-fit = every-all fit rows ∙ alike-total _&&_ true and-swap fit (even-fits count) rows others e ∙ sym (every-all fit others) in
+    rw (all-fit, apart-same rows others (alike-hits rows others e))
 
 pub same-keeps : (count : ℕ) (rows others : List Row) → SameTetrahedra rows others → keepsMeshRule count rows ≡ keepsMeshRule count others
 same-keeps count rows others e = alike-keeps count rows others (same-alike rows others e)

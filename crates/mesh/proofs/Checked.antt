@@ -11,10 +11,10 @@ use lib.ListN.{length, getD, take, drop}
 use lib.Seq.{take-at, drop-at, take-take, take-add}
 use Rattle.lists.specs.Lists.{every, has, numbersFrom}
 use Rattle.lists.proofs.Tests.{either, no-is}
+use Rattle.lists.proofs.Images.{flatMap-append, flatMap-snoc}
 use Rattle.mesh.specs.declared.Row.{Row}
 use Rattle.mesh.specs.Mesh.{rowIn, rowsIn, faces, facesApart}
 use Rattle.mesh.specs.Keys.{rowFaces, rowKeys, tableKeys}
-use Rattle.mesh.proofs.Lists.{flatMap-append, flatMap-snoc}
 use Rattle.mesh.proofs.Tables.{rows-length, rows-append, rows-more, row-bytes, rows-bytes}
 use Rattle.mesh.proofs.Counted.{apart-front, apart-more}
 use Rattle.mesh.proofs.Keys.{keys-apart}
@@ -56,7 +56,8 @@ module _ (table keys : List ℕ) (n : ℕ) (stored : take (rowFaces * n) keys �
   row-checked bytes i h answer e =
       ap facesApart (rows-more table i)
       ∙ apart-more (rowsIn table i) (rowIn table i)
-      ∙ ap (λ b. b && facesApart (rowsIn table i)) (sym (keys-apart (rowIn table i) (rowsIn table i) (row-bytes table bytes i) (rows-bytes table bytes i)) ∙ sym found)
+      ∙ ap (λ b. b && facesApart (rowsIn table i))
+      (sym (keys-apart (rowIn table i) (rowsIn table i) (row-bytes table bytes i) (rows-bytes table bytes i)) ∙ sym found)
     where
       found : answer ≡ every (λ k. not (has (tableKeys (rowsIn table i)) k)) (rowKeys (rowIn table i))
       found = rw (keys-before i (omega arith), keys-at i h) at e

@@ -9,10 +9,10 @@ use lib.Dec.{T}
 use Rattle.lists.specs.Lists.{every, any, those, count}
 use Rattle.lists.proofs.Tests.{and-l, and-r, and-i, same-test}
 use Rattle.lists.proofs.Lists.{every-at, every-i}
+use Rattle.lists.proofs.Counts.{ind, ind-yes, count-cons, count-append, count-same, count-none, none-counted}
 use Rattle.mesh.specs.declared.Row.{Row}
-use Rattle.mesh.specs.Mesh.{Face, faces, sameFace, uses, facesApart}
-use Rattle.mesh.proofs.Lists.{ind, ind-yes, count-cons, count-append, count-same, count-none, none-counted}
-use Rattle.mesh.proofs.Faces.{uses-own, uses-e, uses-turned}
+use Rattle.mesh.specs.Mesh.{Face, faces, uses, facesApart}
+use Rattle.mesh.proofs.Faces.{Turned, stay, FaceOf, uses-e, uses-i, face-uses, uses-turned}
 
 -- the number of rows that use a directed face
 abbrev pub hits : Face → List Row → ℕ
@@ -24,21 +24,26 @@ hits-cons f row rows = count-cons (uses f) row rows
 pub hits-append : (f : Face) (xs ys : List Row) → hits f (xs ++ ys) ≡ hits f xs + hits f ys
 hits-append f xs ys = count-append (uses f) xs ys
 
-pub hits-turned : (f g : Face) (rows : List Row) → T (sameFace f g) → hits f rows ≡ hits g rows
-hits-turned f g rows h = count-same (uses f) (uses g) rows (λ row m. uses-turned f g row h)
+pub hits-turned : (f g : Face) (rows : List Row) → Turned f g → hits f rows ≡ hits g rows
+hits-turned f g rows e = count-same (uses f) (uses g) rows (λ row m. uses-turned f g row e)
+
+-- a row whose face it is, is one that uses it
+pub face-hit : (f : Face) (row : Row) → FaceOf f row → ind (uses f row) ≡ 1
+face-hit f row h = ind-yes (uses f row) (face-uses f row h)
 
 pub apart-hits : (rows : List Row) → T (facesApart rows) → (f : Face) → hits f rows ≤ 1
 unfolding facesApart those
 apart-hits [] h f = omega arith
-apart-hits (row ∷ rows) h f = rw (hits-cons f row rows) (go (uses f row) none (apart-hits rows (and-r front (facesApart rows) h) f))
+apart-hits (row ∷ rows) h f =
+    rw (hits-cons f row rows) (go (uses f row) none (apart-hits rows (and-r (every away (faces row)) (facesApart rows) h) f))
   where
-    front : Bool
-    front = every (λ f. not (any (uses f) rows)) (faces row)
+    away : Face → Bool
+    away f = not (any (uses f) rows)
 
     none : T (uses f row) → hits f rows ≡ 0
     none u =
         let k = uses-e f row u in
-        let n = every-at (λ f. not (any (uses f) rows)) (faces row) (and-l (every (λ f. not (any (uses f) rows)) (faces row)) (facesApart rows) h) (k .1) in
+        let n = every-at away (faces row) (and-l (every away (faces row)) (facesApart rows) h) (k .1) in
         hits-turned f (k .0) rows (k .2) ∙ count-none (uses (k .0)) rows n
 
     go : (b : Bool) → (T b → hits f rows ≡ 0) → hits f rows ≤ 1 → ind b + hits f rows ≤ 1
@@ -54,7 +59,7 @@ hits-apart (row ∷ rows) h =
     (hits-apart rows (λ f. omega (arith, h f, hits-cons f row rows)))
   where
     away : (f : Face) → List·Memᴰ f (faces row) → T (not (any (uses f) rows))
-    away f m = none-counted (uses f) rows (omega (arith, h f, hits-cons f row rows, ind-yes (uses f row) (uses-own f row m)))
+    away f m = none-counted (uses f) rows (omega (arith, h f, hits-cons f row rows, ind-yes (uses f row) (uses-i f f row m stay)))
 
 -- tables whose faces are counted alike
 pub apart-same : (xs ys : List Row) → ((f : Face) → hits f xs ≡ hits f ys) → facesApart xs ≡ facesApart ys

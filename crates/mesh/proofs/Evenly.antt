@@ -1,16 +1,19 @@
 -- What even rearrangements of a row keep. The twelve come from two moves, `spin` and `cross`: what both moves keep, all twelve keep.
-use Prim.Native.Nat.{ℕ}
-use mathlib.Core.Bool.{_&&_}
-use mathlib.Core.List.{List·Memᴰ, List·Memᴰ·head, List·Memᴰ·tail, Memᴰ·cast}
-use mathlib.Core.Path.{_≡_, refl, sym, _∙_, subst}
+use Prim.Native.Nat.{ℕ, _<_}
+use mathlib.Core.Bool.{Bool, _&&_}
+use mathlib.Core.List.{List·Memᴰ, List·Memᴰ·not-nil, Memᴰ·cast}
+use mathlib.Core.Path.{_≡_, refl, sym, _∙_}
+use native.Mathlib.Omega.{arith}
 use lib.Dec.{T, eqb, eqb→eq, eqb-refl}
+use lib.ListN.{getD}
 use Rattle.lists.proofs.Tests.{and-l, and-r, and-i, same-test}
-use Rattle.lists.proofs.Lists.{any-i, any-e, has-i, has-e}
+use Rattle.lists.proofs.Places.{in-cases, at-in}
+use Rattle.lists.proofs.Lists.{any-i, any-e, each}
+use Rattle.lists.proofs.Numbers.{has-i, has-e}
 use Rattle.mesh.specs.declared.Row.{Row}
-use Rattle.mesh.specs.Mesh.{Face, faces, uses, numbers, holds, reversed, numbersFit, Proper}
+use Rattle.mesh.specs.Mesh.{Face, uses, numbers, holds, reversed, numbersFit, Proper}
 use Rattle.mesh.specs.Tetrahedra.{evenly, sameRow, rearranged}
-use Rattle.mesh.proofs.Lists.{each}
-use Rattle.mesh.proofs.Faces.{Turned, as-is, once, twice, same-turned, turned-same, turned-reversed, each-face, uses-e, uses-i, uses-turned}
+use Rattle.mesh.proofs.Faces.{on, back, turned-trans, turned-reversed, FaceOf, no-p, no-q, no-r, no-s, uses-face, face-uses}
 use Rattle.mesh.proofs.Rule.{fit-proper, proper-fits}
 
 -- rows compared by their bytes
@@ -67,100 +70,76 @@ moved P a b t u e h =
     let q = b u h in
     let r = b (spin u) (a u h) in
     let s = b (spin (spin u)) (a2 u h) in
-    each P (evenly u) (
-      h,
-      (a u h, (a2 u h, (q, (a2 (cross u) q, (a (cross u) q, (r, (a (cross (spin u)) r, (a2 (cross (spin u)) r, (s, (a2 (cross (spin (spin u))) s, (a (cross (spin (spin u))) s, tt))))))))))),
-    ) t (even-e t u e)
+    let s1 = cross (spin u) in
+    let s2 = cross (spin (spin u)) in
+    each P (evenly u)
+    (h, (a u h, (a2 u h, (q, (a2 (cross u) q, (a (cross u) q, (r, (a s1 r, (a2 s1 r, (s, (a2 s2 s, (a s2 s, tt))))))))))))
+    t (even-e t u e)
+
+-- a test that both moves keep is one test for all twelve
+pub kept : (p : Row → Bool) → ((t : Row) → T (p t) → T (p (spin t))) → ((t : Row) → T (p t) → T (p (cross t)))
+    → (t u : Row) → T (rearranged t u) → p t ≡ p u
+kept p a b t u e =
+    moved (λ t. p t ≡ p u)
+    (λ t e. same-test (p (spin t)) (p t) (λ h. a (spin (spin t)) (a (spin t) h)) (a t) ∙ e)
+    (λ t e. same-test (p (cross t)) (p t) (b (cross t)) (b t) ∙ e) t u e refl
 
 -- the faces of a row
 
--- a row uses what another uses if it uses its four faces
-within : (t u : Row) → T (uses (t .q, t .r, t .s) u) → T (uses (t .p, t .s, t .r) u) → T (uses (t .p, t .q, t .s) u) → T (uses (t .p, t .r, t .q) u)
-    → (f : Face) → T (uses f t) → T (uses f u)
-within t u a b c d f h =
-    let k = uses-e f t h in
-    subst T (sym (uses-turned f (k .0) u (k .2))) (each-face (λ g. T (uses g u)) t a b c d (k .0) (k .1))
+spin-face : {f : Face} {t : Row} → FaceOf f t → FaceOf f (spin t)
+spin-face (no-p e) = no-p (turned-trans e back)
+spin-face (no-q e) = no-s e
+spin-face (no-r e) = no-q e
+spin-face (no-s e) = no-r e
 
--- face n of a row
-at-0 : (f : Face) (t : Row) → Turned f (t .q, t .r, t .s) → T (uses f t)
-unfolding faces
-at-0 f t e = uses-i f (t .q, t .r, t .s) t (List·Memᴰ·head refl) (turned-same f _ e)
+cross-face : {f : Face} {t : Row} → FaceOf f t → FaceOf f (cross t)
+cross-face (no-p e) = no-q e
+cross-face (no-q e) = no-p e
+cross-face (no-r e) = no-s (turned-trans e back)
+cross-face (no-s e) = no-r (turned-trans e on)
 
-at-1 : (f : Face) (t : Row) → Turned f (t .p, t .s, t .r) → T (uses f t)
-unfolding faces
-at-1 f t e = uses-i f (t .p, t .s, t .r) t (List·Memᴰ·tail (List·Memᴰ·head refl)) (turned-same f _ e)
-
-at-2 : (f : Face) (t : Row) → Turned f (t .p, t .q, t .s) → T (uses f t)
-unfolding faces
-at-2 f t e = uses-i f (t .p, t .q, t .s) t (List·Memᴰ·tail (List·Memᴰ·tail (List·Memᴰ·head refl))) (turned-same f _ e)
-
-at-3 : (f : Face) (t : Row) → Turned f (t .p, t .r, t .q) → T (uses f t)
-unfolding faces
-at-3 f t e = uses-i f (t .p, t .r, t .q) t (List·Memᴰ·tail (List·Memᴰ·tail (List·Memᴰ·tail (List·Memᴰ·head refl)))) (turned-same f _ e)
-
-spin-uses : (f : Face) (t : Row) → T (uses f t) → T (uses f (spin t))
-spin-uses f t h =
-    within t (spin t) (at-0 _ (spin t) (twice refl refl refl)) (at-3 _ (spin t) (as-is refl refl refl))
-    (at-1 _ (spin t) (as-is refl refl refl)) (at-2 _ (spin t) (as-is refl refl refl)) f h
-
-cross-uses : (f : Face) (t : Row) → T (uses f t) → T (uses f (cross t))
-cross-uses f t h =
-    within t (cross t) (at-1 _ (cross t) (as-is refl refl refl)) (at-0 _ (cross t) (as-is refl refl refl))
-    (at-3 _ (cross t) (twice refl refl refl)) (at-2 _ (cross t) (once refl refl refl)) f h
+mirror-face : {f : Face} {t : Row} → FaceOf f (mirror t) → FaceOf (reversed f) t
+mirror-face (no-p e) = no-p (turned-reversed e)
+mirror-face (no-q e) = no-q (turned-reversed e)
+mirror-face (no-r e) = no-s (turned-reversed e)
+mirror-face (no-s e) = no-r (turned-reversed e)
 
 -- an even rearrangement uses the same faces
 pub even-uses : (t u : Row) → T (rearranged t u) → (f : Face) → uses f t ≡ uses f u
-even-uses t u e f = moved (λ t. uses f t ≡ uses f u) spun crossed t u e refl
-  where
-    spun : (t : Row) → uses f t ≡ uses f u → uses f (spin t) ≡ uses f u
-    spun t e =
-        same-test (uses f (spin t)) (uses f t) (λ h. spin-uses f (spin (spin t)) (spin-uses f (spin t) h)) (spin-uses f t) ∙ e
-
-    crossed : (t : Row) → uses f t ≡ uses f u → uses f (cross t) ≡ uses f u
-    crossed t e = same-test (uses f (cross t)) (uses f t) (cross-uses f (cross t)) (cross-uses f t) ∙ e
+even-uses t u e f =
+    kept (uses f) (λ t h. face-uses f (spin t) (spin-face (uses-face f t h))) (λ t h. face-uses f (cross t) (cross-face (uses-face f t h))) t u e
 
 -- an odd one uses the reversed faces
 pub mirror-uses : (t : Row) (f : Face) → uses f (mirror t) ≡ uses (reversed f) t
 mirror-uses t f = same-test (uses f (mirror t)) (uses (reversed f) t) (to t f) (to (mirror t) (reversed f))
   where
     to : (t : Row) (f : Face) → T (uses f (mirror t)) → T (uses (reversed f) t)
-    to t f h =
-        let k = uses-e f (mirror t) h in
-        let own = each-face (λ g. T (uses (reversed g) t)) (mirror t) (at-0 _ t (as-is refl refl refl)) (at-1 _ t (as-is refl refl refl))
-        (at-3 _ t (as-is refl refl refl)) (at-2 _ t (as-is refl refl refl)) (k .0) (k .1) in
-        let same = turned-same (reversed f) (reversed (k .0)) (turned-reversed (same-turned f (k .0) (k .2))) in
-        subst T (sym (uses-turned (reversed f) (reversed (k .0)) t same)) own
+    to t f h = face-uses (reversed f) t (mirror-face (uses-face f (mirror t) h))
 
 -- the numbers of a row
 
+-- a number of a row is one of the four
+pub holds-cases : {P : Type 0} (row : Row) (n : ℕ) → T (holds row n)
+    → (n ≡ row .p → P) → (n ≡ row .q → P) → (n ≡ row .r → P) → (n ≡ row .s → P) → P
+holds-cases row n h p q r s =
+    in-cases (has-e (numbers row) n h) p λ m. in-cases m q λ m. in-cases m r λ m. in-cases m s λ m. absurd (List·Memᴰ·not-nil m)
+
+pub holds-at : (row : Row) (i n : ℕ) → i < 4 → n ≡ getD (numbers row) i 0 → T (holds row n)
+holds-at row i n l e = rw e (has-i (numbers row) (at-in (numbers row) i 0 l))
+
 spin-holds : (n : ℕ) (t : Row) → T (holds t n) → T (holds (spin t) n)
 spin-holds n t h =
-    each (λ k. T (holds (spin t) k)) (numbers t)
-    (at (List·Memᴰ·head refl), (at (List·Memᴰ·tail (List·Memᴰ·tail (List·Memᴰ·tail (List·Memᴰ·head refl)))), (at (List·Memᴰ·tail (List·Memᴰ·head refl)), (at (List·Memᴰ·tail (List·Memᴰ·tail (List·Memᴰ·head refl))), tt))))
-    n (has-e (numbers t) n h)
-  where
-    at : {k : ℕ} → List·Memᴰ k (numbers (spin t)) → T (holds (spin t) k)
-    at m = has-i (numbers (spin t)) m
+    let at = holds-at (spin t) in
+    holds-cases t n h (at 0 n (omega arith)) (at 3 n (omega arith)) (at 1 n (omega arith)) (at 2 n (omega arith))
 
 cross-holds : (n : ℕ) (t : Row) → T (holds t n) → T (holds (cross t) n)
 cross-holds n t h =
-    each (λ k. T (holds (cross t) k)) (numbers t)
-    (at (List·Memᴰ·tail (List·Memᴰ·head refl)), (at (List·Memᴰ·head refl), (at (List·Memᴰ·tail (List·Memᴰ·tail (List·Memᴰ·tail (List·Memᴰ·head refl)))), (at (List·Memᴰ·tail (List·Memᴰ·tail (List·Memᴰ·head refl))), tt))))
-    n (has-e (numbers t) n h)
-  where
-    at : {k : ℕ} → List·Memᴰ k (numbers (cross t)) → T (holds (cross t) k)
-    at m = has-i (numbers (cross t)) m
+    let at = holds-at (cross t) in
+    holds-cases t n h (at 1 n (omega arith)) (at 0 n (omega arith)) (at 3 n (omega arith)) (at 2 n (omega arith))
 
 -- an even rearrangement holds the same numbers
 pub even-holds : (t u : Row) → T (rearranged t u) → (n : ℕ) → holds t n ≡ holds u n
-even-holds t u e n = moved (λ t. holds t n ≡ holds u n) spun crossed t u e refl
-  where
-    spun : (t : Row) → holds t n ≡ holds u n → holds (spin t) n ≡ holds u n
-    spun t e =
-        same-test (holds (spin t) n) (holds t n) (λ h. spin-holds n (spin (spin t)) (spin-holds n (spin t) h)) (spin-holds n t) ∙ e
-
-    crossed : (t : Row) → holds t n ≡ holds u n → holds (cross t) n ≡ holds u n
-    crossed t e = same-test (holds (cross t) n) (holds t n) (cross-holds n (cross t)) (cross-holds n t) ∙ e
+even-holds t u e n = kept (λ t. holds t n) (spin-holds n) (cross-holds n) t u e
 
 -- and is proper exactly when the row is
 
@@ -196,19 +175,11 @@ pub even-proper : (count : ℕ) (t u : Row) → T (rearranged t u) → Proper co
 even-proper count t u e h = moved (Proper count) (spin-proper count) (cross-proper count) t u e h
 
 pub even-fits : (count : ℕ) (t u : Row) → T (rearranged t u) → numbersFit count t ≡ numbersFit count u
-even-fits count t u e = moved (λ t. numbersFit count t ≡ numbersFit count u) spun crossed t u e refl
+even-fits count t u e = kept (numbersFit count) (on spin (spin-proper count)) (on cross (cross-proper count)) t u e
   where
-    on : (move : Row → Row) → ((t : Row) → Proper count t → Proper count (move t)) → (t : Row) → T (numbersFit count t) → T (numbersFit count (move t))
+    on : (move : Row → Row) → ((t : Row) → Proper count t → Proper count (move t)) → (t : Row) → T (numbersFit count t)
+        → T (numbersFit count (move t))
     on move f t h = proper-fits count (move t) (f t (fit-proper count t h))
-
-    spun : (t : Row) → numbersFit count t ≡ numbersFit count u → numbersFit count (spin t) ≡ numbersFit count u
-    spun t e =
-        same-test (numbersFit count (spin t)) (numbersFit count t) (λ h. on spin (spin-proper count) (spin (spin t)) (on spin (spin-proper count) (spin t) h))
-        (on spin (spin-proper count) t) ∙ e
-
-    crossed : (t : Row) → numbersFit count t ≡ numbersFit count u → numbersFit count (cross t) ≡ numbersFit count u
-    crossed t e =
-        same-test (numbersFit count (cross t)) (numbersFit count t) (on cross (cross-proper count) (cross t)) (on cross (cross-proper count) t) ∙ e
 
 pub even-region : (t u : Row) → T (rearranged t u) → t .region ≡ u .region
 even-region t u e = moved (λ t. t .region ≡ u .region) (λ t h. h) (λ t h. h) t u e refl

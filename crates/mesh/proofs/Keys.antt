@@ -7,13 +7,14 @@ use native.Mathlib.Decide.{decLe}
 use native.Mathlib.Omega.{arith}
 use lib.Dec.{T, eqb, eqb→eq}
 use Rattle.lists.specs.Lists.{every, any, has}
-use Rattle.lists.proofs.Tests.{same-test}
+use Rattle.lists.proofs.Tests.{same-test, eq-test}
+use Rattle.lists.proofs.Images.{any-map, any-flatMap, every-map}
+use Rattle.lists.proofs.Lists.{any-same, every-same}
 use Rattle.mesh.specs.declared.Row.{Row}
 use Rattle.mesh.specs.Mesh.{Face, faces, sameFace, uses}
 use Rattle.mesh.specs.Keys.{threeAsOne, faceKey, rowKeys, tableKeys}
-use Rattle.mesh.proofs.Lists.{any-map, any-same, any-flatMap, every-map, every-same}
 use Rattle.mesh.proofs.Tables.{Bytes}
-use Rattle.mesh.proofs.Faces.{Turned, as-is, once, twice, same-turned, turned-same, turned-sym, turned-trans, eq-test, each-face}
+use Rattle.mesh.proofs.Faces.{Turned, as-is, once, twice, same-turned, turned-same, turned-sym, turned-trans, turned-equal, each-face}
 
 -- The three numbers of a face are bytes.
 pub record Small (f : Face) : Type 0 where
@@ -47,9 +48,11 @@ key-of f s = go (decLe (asOne f) (asOne (turn f))) (decLe (asOne f) (asOne (turn
     go : Dec (asOne f ≤ asOne (turn f)) → Dec (asOne f ≤ asOne (turn (turn f))) → Dec (asOne (turn f) ≤ asOne (turn (turn f)))
         → (g : Face) × Small g × Turned f g × (min (asOne f) (min (asOne (turn f)) (asOne (turn (turn f)))) ≡ asOne g)
     go (yes a) (yes b) c = (f, s, as-is refl refl refl, omega arith)
-    go (yes a) (no b) c = (turn (turn f), record { small-0 = s .small-2; small-1 = s .small-0; small-2 = s .small-1 }, once refl refl refl, omega arith)
+    go (yes a) (no b) c =
+        (turn (turn f), record { small-0 = s .small-2; small-1 = s .small-0; small-2 = s .small-1 }, once refl refl refl, omega arith)
     go (no a) b (yes c) = (turn f, record { small-0 = s .small-1; small-1 = s .small-2; small-2 = s .small-0 }, twice refl refl refl, omega arith)
-    go (no a) b (no c) = (turn (turn f), record { small-0 = s .small-2; small-1 = s .small-0; small-2 = s .small-1 }, once refl refl refl, omega arith)
+    go (no a) b (no c) =
+        (turn (turn f), record { small-0 = s .small-2; small-1 = s .small-0; small-2 = s .small-1 }, once refl refl refl, omega arith)
 
 pub key-same : (f g : Face) → Small f → Small g → faceKey f ≡ faceKey g → T (sameFace f g)
 key-same f g s t e =
@@ -58,15 +61,7 @@ key-same f g s t e =
     turned-same f g (turned-trans (a .2) (turned-trans (as-one-e (a .0) (b .0) (a .1) (b .1) (sym (a .3) ∙ e ∙ b .3)) (turned-sym (b .2))))
 
 pub same-key : (f g : Face) → T (sameFace f g) → faceKey f ≡ faceKey g
-same-key f g h = go (same-turned f g h)
-  where
-    equal : (f g : Face) → f .0 ≡ g .0 → f .1 ≡ g .1 → f .2 ≡ g .2 → faceKey f ≡ faceKey g
-    equal f g a b c = rw (a, b, c)
-
-    go : Turned f g → faceKey f ≡ faceKey g
-    go (as-is a b c) = equal f g a b c
-    go (once a b c) = equal f (turn g) a b c ∙ sym (key-turn g)
-    go (twice a b c) = equal f (turn (turn g)) a b c ∙ sym (key-turn g ∙ key-turn (turn g))
+same-key f g h = turned-equal (λ x y z. faceKey (x, y, z)) (λ x y z. key-turn (x, y, z)) f g (same-turned f g h)
 
 -- two faces compared by their keys
 pub key-test : (f g : Face) → Small f → Small g → eqb (faceKey f) (faceKey g) ≡ sameFace f g
@@ -90,7 +85,8 @@ key-in-row f row s b =
     ∙ any-same (λ g. eqb (faceKey f) (faceKey g)) (sameFace f) (faces row) (λ g m. key-test f g s (faces-small row b g m))
 
 -- and by a row of a table exactly when its key is one of the table's
-pub key-in-table : (f : Face) (rows : List Row) → Small f → ((row : Row) → List·Memᴰ row rows → Bytes row) → has (tableKeys rows) (faceKey f) ≡ any (uses f) rows
+pub key-in-table : (f : Face) (rows : List Row) → Small f → ((row : Row) → List·Memᴰ row rows → Bytes row)
+    → has (tableKeys rows) (faceKey f) ≡ any (uses f) rows
 key-in-table f rows s b =
     any-flatMap (eqb (faceKey f)) rowKeys rows
     ∙ any-same (λ row. has (rowKeys row) (faceKey f)) (uses f) rows (λ row m. key-in-row f row s (b row m))

@@ -1,4 +1,3 @@
-pub mod Lists
 pub mod Tables
 pub mod Faces
 pub mod Counted

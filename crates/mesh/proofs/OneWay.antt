@@ -2,8 +2,8 @@
 -- places, different places hold different numbers, and of four places a computed test says it. So a table keeps the mesh rule
 -- exactly when its rows are proper and no key of a face stands twice.
 use Prim.Native.Nat.{ℕ, _+_, _≤_, _<_}
-use mathlib.Core.Bool.{Bool, true, false, not, _&&_, _||_}
-use mathlib.Core.List.{List, [], _∷_, flatMap, List·Memᴰ, List·Memᴰ·head, List·Memᴰ·tail, Memᴰ·map}
+use mathlib.Core.Bool.{not, _&&_}
+use mathlib.Core.List.{List, [], _∷_, flatMap, List·Memᴰ, List·Memᴰ·head, List·Memᴰ·tail, Memᴰ·map, Memᴰ·of-map}
 use mathlib.Core.Logic.{_⊎_, inl, inr}
 use mathlib.Core.Path.{_≡_, refl, sym, ap, _∙_, subst}
 use native.Mathlib.Omega.{arith}
@@ -11,13 +11,15 @@ use lib.Dec.{T, eqb, ltb, T-not, not-T, eqb→eq}
 use lib.ListN.{getD}
 use Rattle.lists.specs.Lists.{every, any, those, count, different}
 use Rattle.lists.proofs.Tests.{and-l, and-r, either, no-is, yes-is}
-use Rattle.lists.proofs.Lists.{every-at}
+use Rattle.lists.proofs.Lists.{every-at, every-cons}
+use Rattle.lists.proofs.Counts.{ind-either, count-cons}
+use Rattle.lists.proofs.Numbers.{different-cons, different-places, different-append}
 use Rattle.mesh.specs.declared.Row.{Row}
 use Rattle.mesh.specs.Mesh.{Face, faces, sameFace, reversed, usesEitherWay, numbers, uses, numbersFit, facesApart, keepsMeshRule, Proper}
 use Rattle.mesh.specs.Keys.{faceKey, rowKeys, tableKeys}
-use Rattle.mesh.proofs.Lists.{ind, count-cons, every-cons, different-cons, different-places, different-append, map-in}
 use Rattle.mesh.proofs.Tables.{Bytes}
-use Rattle.mesh.proofs.Faces.{Turned, as-is, once, twice, same-turned, turned-same, turned-sym, turned-trans, turned-reversed, each-face, uses-e}
+use Rattle.mesh.proofs.Faces.{Turned, as-is, once, twice, same-turned, turned-same}
+use Rattle.mesh.proofs.Faces.{turned-sym, turned-trans, turned-reversed, each-face, uses-e}
 use Rattle.mesh.proofs.Counted.{hits}
 use Rattle.mesh.proofs.Keys.{key-same, keys-apart, faces-small}
 use Rattle.mesh.proofs.Places.{inOrder}
@@ -42,7 +44,9 @@ unfolding numbersFit
 places-turned count row pr g h v w t = go t
   where
     one : (i j : ℕ) → i < 4 → j < 4 → getD (numbers row) i 0 ≡ getD (numbers row) j 0 → i ≡ j
-    one i j k l e = different-places (numbers row) 0 i j (and-r (every (λ n. ltb n count) (numbers row)) (different (numbers row)) (proper-fits count row pr)) k l e
+    one i j k l e =
+        let fit = and-r (every (λ n. ltb n count) (numbers row)) (different (numbers row)) (proper-fits count row pr) in
+        different-places (numbers row) 0 i j fit k l e
 
     go : Turned (faceAt row g) (faceAt row h) → Turned g h
     go (as-is a b c) = as-is (one _ _ (v .0) (w .0) a) (one _ _ (v .1) (w .1) b) (one _ _ (v .2) (w .2) c)
@@ -55,11 +59,11 @@ unfolding faces every any sameFace
 one-way count row pr f a b =
     let g = uses-e f row a in
     let h = uses-e (reversed f) row b in
-    let i = map-in (faceAt row) (faces inOrder) (g .1) in
-    let j = map-in (faceAt row) (faces inOrder) (h .1) in
-    let k = turned-trans (turned-sym (turned-reversed (same-turned f (g .0) (g .2)))) (same-turned (reversed f) (h .0) (h .2)) in
+    let i = Memᴰ·of-map (faceAt row) (faces inOrder) (g .1) in
+    let j = Memᴰ·of-map (faceAt row) (faces inOrder) (h .1) in
+    let k = turned-trans (turned-sym (turned-reversed (g .2))) (h .2) in
     let l : Turned (faceAt row (reversed (i .0))) (faceAt row (j .0)) =
-    subst (λ w. Turned w (faceAt row (j .0))) (ap reversed (i .2)) (subst (Turned (reversed (g .0))) (j .2) k) in
+    subst (λ w. Turned w (faceAt row (j .0))) (sym (ap reversed (i .2))) (subst (Turned (reversed (g .0))) (sym (j .2)) k) in
     let v = within (i .0) (i .1) in
     let m = places-turned count row pr (reversed (i .0)) (j .0) (v .0, v .2, v .1) (within (j .0) (j .1)) l in
     let never = every-at (λ h. not (sameFace (reversed (i .0)) h)) (faces inOrder)
@@ -74,13 +78,8 @@ either-way points [] h f = refl
 either-way points (row ∷ rows) h f =
     let fit = and-l (numbersFit points row) (every (numbersFit points) rows) h in
     let rest = either-way points rows (and-r (numbersFit points row) (every (numbersFit points) rows) h) f in
-    let own = go (uses f row) (uses (reversed f) row) (one-way points row (fit-proper points row fit) f) in
+    let own = ind-either (uses f row) (uses (reversed f) row) (one-way points row (fit-proper points row fit) f) in
     omega (arith, own, rest, count-cons (usesEitherWay f) row rows, count-cons (uses f) row rows, count-cons (uses (reversed f)) row rows)
-  where
-    go : (a b : Bool) → (T a → T b → ⊥) → ind (a || b) ≡ ind a + ind b
-    go true true h = absurd (h tt tt)
-    go true false h = refl
-    go false b h = omega arith
 
 -- the keys of a row's faces are four different numbers
 pub keys-differ : (count : ℕ) (row : Row) → Proper count row → Bytes row → T (different (rowKeys row))
@@ -106,13 +105,15 @@ keys-differ count row pr small =
     key g = faceKey (faceAt row g)
 
     far : (g h : Face) (ks : List ℕ) → List·Memᴰ g (faces inOrder) → List·Memᴰ h (faces inOrder) → (T (sameFace g h) → ⊥)
-        → T (every (λ k. not (eqb (faceKey (faceAt row g)) k)) ks) → T (every (λ k. not (eqb (faceKey (faceAt row g)) k)) (faceKey (faceAt row h) ∷ ks))
+        → T (every (λ k. not (eqb (faceKey (faceAt row g)) k)) ks)
+        → T (every (λ k. not (eqb (faceKey (faceAt row g)) k)) (faceKey (faceAt row h) ∷ ks))
     far g h ks m n ne rest =
         every-cons (λ k. not (eqb (faceKey (faceAt row g)) k)) (faceKey (faceAt row h)) ks
         (not-T (eqb (faceKey (faceAt row g)) (faceKey (faceAt row h)))
         (λ e. ne (turned-same g h (places-turned count row pr g h (within g m) (within h n)
         (same-turned (faceAt row g) (faceAt row h)
-        (key-same (faceAt row g) (faceAt row h) (faces-small row small (faceAt row g) (Memᴰ·map (faceAt row) m)) (faces-small row small (faceAt row h) (Memᴰ·map (faceAt row) n))
+        (key-same (faceAt row g) (faceAt row h)
+        (faces-small row small (faceAt row g) (Memᴰ·map (faceAt row) m)) (faces-small row small (faceAt row h) (Memᴰ·map (faceAt row) n))
         (eqb→eq (faceKey (faceAt row g)) (faceKey (faceAt row h)) e))))))) rest
 
 bytes : (count : ℕ) → count ≤ 256 → (row : Row) → Proper count row → Bytes row
@@ -123,7 +124,8 @@ bytes count h row pr = record {
   byte-s = omega (arith, pr .below-s);
 }
 
-apart-keys : (count : ℕ) (rows : List Row) → count ≤ 256 → ((row : Row) → List·Memᴰ row rows → Proper count row) → facesApart rows ≡ different (tableKeys rows)
+apart-keys : (count : ℕ) (rows : List Row) → count ≤ 256 → ((row : Row) → List·Memᴰ row rows → Proper count row)
+    → facesApart rows ≡ different (tableKeys rows)
 unfolding facesApart flatMap different
 apart-keys count [] h pr = refl
 apart-keys count (row ∷ rows) h pr =

@@ -2,20 +2,21 @@
 -- an even rearrangement of four places, and of those a computed test says all.
 use Prim.Native.Nat.{ℕ, _<_}
 use mathlib.Core.Bool.{Bool, _&&_, _||_}
-use mathlib.Core.List.{map, List·Memᴰ, List·Memᴰ·head, Memᴰ·map}
+use mathlib.Core.List.{List·Memᴰ, List·Memᴰ·head, Memᴰ·map, Memᴰ·of-map}
 use mathlib.Core.Logic.{_⊎_, inl, inr}
 use mathlib.Core.Path.{_≡_, refl, sym, ap, _∙_, subst}
 use native.Mathlib.Omega.{arith}
 use lib.Dec.{T, eqb, eqb→eq}
-use lib.ListN.{getD, List·getD-map}
+use lib.ListN.{getD}
 use Rattle.lists.specs.Lists.{every, any, firstOr, different, numbersFrom}
-use Rattle.lists.proofs.Tests.{and-l, and-r, and-i, or-e, same-test}
-use Rattle.lists.proofs.Lists.{every-at, any-i, any-e, has-e, numbers-i}
+use Rattle.lists.proofs.Tests.{and-l, and-r, and-i, or-e, same-test, eq-test}
+use Rattle.lists.proofs.Lists.{every-at, any-i, any-e, first-found}
+use Rattle.lists.proofs.Numbers.{has-e, numbers-i}
+use Rattle.lists.proofs.Places.{in-at}
+use Rattle.lists.proofs.Images.{map-at}
 use Rattle.mesh.specs.declared.Row.{Row}
 use Rattle.mesh.specs.Mesh.{numbers, holds, numbersFit, noRow, Proper}
 use Rattle.mesh.specs.Tetrahedra.{evenly, sameRow, rearranged, arrangedFrom}
-use Rattle.mesh.proofs.Lists.{getD-inside, in-at, map-in, first-found}
-use Rattle.mesh.proofs.Faces.{eq-test}
 use Rattle.mesh.proofs.Rule.{fit-proper}
 use Rattle.mesh.proofs.Evenly.{same-row, even-e, even-i, even-proper}
 
@@ -35,7 +36,7 @@ inOrder = record { p = 0; q = 1; r = 2; s = 3; region = 0 }
 
 even-places : (t u : Row) → T (rearranged t u) → (σ : Row) × List·Memᴰ σ (evenly inOrder) × (t ≡ pick u σ)
 unfolding evenly
-even-places t u e = map-in (pick u) (evenly inOrder) (even-e t u e)
+even-places t u e = let k = Memᴰ·of-map (pick u) (evenly inOrder) (even-e t u e) in (k .0, k .1, sym (k .2))
 
 places-even : (u σ : Row) → List·Memᴰ σ (evenly inOrder) → T (rearranged (pick u σ) u)
 unfolding evenly
@@ -50,9 +51,7 @@ pick-pick u σ τ m = rw (at (τ .p) (small .below-p), at (τ .q) (small .below-
     small = even-proper 4 τ inOrder (even-i τ inOrder m) (fit-proper 4 inOrder tt)
 
     at : (i : ℕ) → i < 4 → getD (numbers (pick u σ)) i 0 ≡ getD (numbers u) (getD (numbers σ) i 0) 0
-    at i h =
-        let read : ℕ → ℕ = λ k. getD (numbers u) k 0 in
-        getD-inside (map read (numbers σ)) i 0 (read 0) h ∙ List·getD-map read (numbers σ) i 0
+    at i h = map-at (λ k. getD (numbers u) k 0) (numbers σ) i 0 0 h
 
 -- the group
 
@@ -77,7 +76,8 @@ even-sym t u a =
     let back = any-e (λ ρ. sameRow (pick (k .0) ρ) inOrder) (evenly inOrder)
     (every-at (λ σ. any (λ ρ. sameRow (pick σ ρ) inOrder) (evenly inOrder)) (evenly inOrder) tt (k .1)) in
     let ρ = back .0 in
-    let e : u ≡ pick t ρ = sym (ap (λ w. pick w ρ) (k .2) ∙ pick-pick u (k .0) ρ (back .1) ∙ ap (pick u) (same-row (pick (k .0) ρ) inOrder (back .2))) in
+    let e : u ≡ pick t ρ =
+    sym (ap (λ w. pick w ρ) (k .2) ∙ pick-pick u (k .0) ρ (back .1) ∙ ap (pick u) (same-row (pick (k .0) ρ) inOrder (back .2))) in
     subst (λ w. T (rearranged w t)) (sym e) (places-even t ρ (back .1))
 
 -- rows that are one tetrahedron are so with the same rows

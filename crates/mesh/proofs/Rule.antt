@@ -10,10 +10,12 @@ use lib.Dec.{T, eqb, ltb, eqb→eq, ltb→lt, lt→ltb, not-T}
 use lib.ListN.{length, getD}
 use Rattle.lists.specs.Lists.{every, count, different}
 use Rattle.lists.proofs.Tests.{and-l, and-r, and-i}
-use Rattle.lists.proofs.Lists.{every-at, every-i}
+use Rattle.lists.proofs.Lists.{every-at, every-i, every-cons}
+use Rattle.lists.proofs.Places.{at-in, in-at}
+use Rattle.lists.proofs.Counts.{count-or, count-two, two-places}
+use Rattle.lists.proofs.Numbers.{different-head, different-tail, different-cons}
 use Rattle.mesh.specs.declared.Row.{Row}
 use Rattle.mesh.specs.Mesh.{Face, numbers, uses, usesEitherWay, reversed, numbersFit, facesApart, keepsMeshRule, noRow, Proper, MeshRule}
-use Rattle.mesh.proofs.Lists.{every-cons, at-in, in-at, count-or, count-two, two-places, different-head, different-tail, different-cons}
 use Rattle.mesh.proofs.Counted.{hits, apart-hits, hits-apart}
 
 -- the numbers of a row

@@ -3,25 +3,23 @@ use Prim.Native.Nat.{ℕ, suc, _+_, _*_, _≤_, _<_}
 use mathlib.Core.List.{List, [], _∷_, _++_, map, List·Memᴰ, Memᴰ·map}
 use mathlib.Core.Path.{_≡_, sym, ap, _∙_, subst}
 use native.Mathlib.Omega.{arith}
-use lib.ListN.{length, getD, take, length-map, List·getD-map}
+use lib.ListN.{length, getD, take}
 use lib.Seq.{getD-take}
 use Rattle.lists.specs.Lists.{numbersFrom}
-use Rattle.lists.proofs.Lists.{numbers-e, numbers-i, numbers-length, numbers-at}
+use Rattle.lists.proofs.Numbers.{numbers-e, numbers-i, map-numbers-length, map-numbers-at, map-numbers-append}
+use Rattle.lists.proofs.Places.{in-at}
+use Rattle.lists.proofs.Images.{map-same}
 use Rattle.mesh.specs.declared.Row.{Row}
 use Rattle.mesh.specs.Mesh.{rowSize, rowIn, rowsIn}
-use Rattle.mesh.proofs.Lists.{getD-inside, in-at, map-append, map-same, numbers-append}
 
 pub rows-length : (table : List ℕ) (n : ℕ) → length (rowsIn table n) ≡ n
 unfolding rowsIn
-rows-length table n = length-map (numbersFrom 0 n) (rowIn table) ∙ numbers-length 0 n
+rows-length table n = map-numbers-length (rowIn table) n
 
 -- row i of the first n
 pub rows-at : (table : List ℕ) (n i : ℕ) (d : Row) → i < n → getD (rowsIn table n) i d ≡ rowIn table i
 unfolding rowsIn
-rows-at table n i d h =
-    getD-inside (map (rowIn table) (numbersFrom 0 n)) i d (rowIn table 0) (omega (arith, rows-length table n))
-    ∙ List·getD-map (rowIn table) (numbersFrom 0 n) i 0
-    ∙ ap (rowIn table) (omega (arith, numbers-at 0 n i 0 h))
+rows-at table n i d h = map-numbers-at (rowIn table) n i d h
 
 pub row-among : (table : List ℕ) (n i : ℕ) → i < n → List·Memᴰ (rowIn table i) (rowsIn table n)
 unfolding rowsIn
@@ -37,9 +35,7 @@ among-rows table n m =
 -- the first n rows and those after them
 pub rows-append : (table : List ℕ) (n k : ℕ) → rowsIn table (n + k) ≡ rowsIn table n ++ map (rowIn table) (numbersFrom n k)
 unfolding rowsIn
-rows-append table n k =
-    ap (map (rowIn table)) (numbers-append 0 n k ∙ ap (λ i. numbersFrom 0 n ++ numbersFrom i k) (omega arith))
-    ∙ map-append (rowIn table) (numbersFrom 0 n) (numbersFrom n k)
+rows-append table n k = map-numbers-append (rowIn table) n k
 
 -- one row more
 pub rows-more : (table : List ℕ) (n : ℕ) → rowsIn table (suc n) ≡ rowsIn table n ++ rowIn table n ∷ []

@@ -1,11 +1,12 @@
 -- Bytes written from a place on: behind a front they follow it, and where zeros stood they take the place of zeros.
-use Prim.Native.Nat.{ℕ, zero, suc, _+_, _-_, _≤_}
+use Prim.Native.Nat.{ℕ, _+_, _-_, _≤_}
 use mathlib.Core.List.{List, [], _∷_, _++_}
 use mathlib.Core.Path.{_≡_, ap, _∙_}
 use native.Mathlib.Numerals.{add-one, add-two, add-three, add-four}
 use native.Mathlib.Omega.{arith}
-use lib.ListN.{length, take, drop, replicate, set, length-append}
+use lib.ListN.{length, drop, replicate, set, length-append}
 use lib.Seq.{take-at, drop-append-add, sets-eq}
+use Rattle.lists.proofs.Numbers.{drop-zeros}
 use Rattle.block.specs.Layout.{filled}
 use Rattle.output.specs.Output.{pasted}
 
@@ -19,18 +20,6 @@ pub five-stored : (table : List ℕ) (at : ℕ) → at + 5 ≤ length table → 
     → set (set (set (set (set table at a) (at + 1) b) (at + 2) c) (at + 3) d) (at + 4) e ≡ pasted table at (a ∷ b ∷ c ∷ d ∷ e ∷ [])
 five-stored table at inside a b c d e =
     rw (add-one at, add-two at, add-three at, add-four at) (sets-eq (a ∷ b ∷ c ∷ d ∷ e ∷ []) table at inside)
-
--- fewer zeros
-pub drop-zeros : (n k : ℕ) → drop n (replicate {A = ℕ} k 0) ≡ replicate (k - n) 0
-drop-zeros zero k =
-    let e : k - 0 ≡ k = omega arith in
-    rw e
-drop-zeros (suc n) zero =
-    let e : 0 - suc n ≡ 0 = omega arith in
-    rw e
-drop-zeros (suc n) (suc k) =
-    let e : suc k - suc n ≡ k - n = omega arith in
-    rw e (drop-zeros n k)
 
 -- bytes in front of zeros
 pub pasted-filled : (k : ℕ) (front bytes : List ℕ) (n : ℕ) → length front ≡ n → pasted (filled k front) n bytes ≡ filled k (front ++ bytes)

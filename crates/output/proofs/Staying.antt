@@ -1,25 +1,19 @@
 -- Which rows stay, in the words of an edge and of a face; and the rows that stay, one row of the table after the other.
 use Prim.Native.Nat.{ℕ, _+_, _*_}
 use mathlib.Core.Bool.{Bool, true, false, not, _&&_}
-use mathlib.Core.List.{List, [], _∷_, _++_, flatMap, append-nil}
+use mathlib.Core.List.{List, [], _∷_, _++_, flatMap}
 use mathlib.Core.Path.{_≡_, refl, sym, ap, _∙_}
 use native.Mathlib.Numerals.{add-one}
 use native.Mathlib.Omega.{arith}
 use lib.ListN.{length, drop, length-append}
 use Rattle.lists.specs.Lists.{every, those}
-use Rattle.lists.proofs.Lists.{those-append}
+use Rattle.lists.proofs.Lists.{those-yes, those-no, those-same}
+use Rattle.lists.proofs.Tests.{and-true}
 use Rattle.mesh.specs.declared.Row.{Row}
 use Rattle.mesh.specs.Mesh.{rowSize, rowBytes, rowIn, rowsIn, holds}
-use Rattle.mesh.proofs.Lists.{and-true}
 use Rattle.mesh.proofs.Tables.{rows-more}
 use Rattle.output.specs.Output.{stays, staying, pasted}
 use Rattle.output.proofs.Tables.{front-more}
-
--- a test in other words lets the same elements pass
-pub those-same : {A : Type 0} (p q : A → Bool) → ((x : A) → p x ≡ q x) → (xs : List A) → those p xs ≡ those q xs
-unfolding those
-those-same p q f [] = refl
-those-same p q f (x ∷ xs) = rw (f x, those-same p q f xs)
 
 twice : (a b : Bool) → a && (b && b) ≡ a && b
 twice true true = refl
@@ -43,15 +37,6 @@ pub face-staying : (x y z : ℕ) (rows : List Row) → staying x y z rows ≡ th
 face-staying x y z rows = those-same (stays x y z) (λ row. not (every (holds row) (x ∷ y ∷ z ∷ []))) (face-stays x y z) rows
 
 -- one row more of a table
-
-module _ {A : Type 0} (p : A → Bool) (xs : List A) (x : A) where
-  those-yes : p x ≡ true → those p (xs ++ x ∷ []) ≡ those p xs ++ x ∷ []
-  unfolding those
-  those-yes e = those-append p xs (x ∷ []) ∙ rw e
-
-  those-no : p x ≡ false → those p (xs ++ x ∷ []) ≡ those p xs
-  unfolding those
-  those-no e = those-append p xs (x ∷ []) ∙ rw e (append-nil (those p xs))
 
 module _ (x y z : ℕ) (table rest : List ℕ) where
   -- the rows that stay, of the first i, are k and stand at the front of a table

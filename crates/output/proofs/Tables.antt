@@ -5,14 +5,15 @@ use mathlib.Core.Path.{_≡_, sym, ap, _∙_}
 use native.Mathlib.Omega.{arith}
 use lib.ListN.{length, drop, replicate, length-append, length-drop}
 use lib.Seq.{drop-at, drop-drop}
+use Rattle.lists.proofs.Images.{flatMap-append, flatMap-snoc}
+use Rattle.lists.proofs.Numbers.{drop-zeros}
 use Rattle.mesh.specs.declared.Row.{Row}
 use Rattle.mesh.specs.Mesh.{rowSize, rowBytes, rowsIn}
-use Rattle.mesh.proofs.Lists.{flatMap-append, flatMap-snoc}
 use Rattle.block.specs.Layout.{maxRows}
 use Rattle.block.proofs.Cells.{row-cells, written-length, rows-read}
 use Rattle.block.proofs.Parts.{filled-length}
 use Rattle.output.specs.Output.{pasted, tableBytes, tableWith}
-use Rattle.output.proofs.Pasted.{pasted-behind, drop-zeros, pasted-filled}
+use Rattle.output.proofs.Pasted.{pasted-behind, pasted-filled}
 
 module _ (rows : List Row) where
   -- the bytes of some rows

@@ -8,10 +8,11 @@ use lib.Seq.{take-at, take-take, set-append-left, length-take-le}
 use Rattle.measure.specs.Measure.{pointBytes}
 use Rattle.mesh.specs.declared.Row.{Row}
 use Rattle.mesh.specs.Mesh.{rowSize, rowBytes, rowsIn}
+use Rattle.mesh.proofs.Tables.{rows-length}
 use Rattle.block.specs.Layout.{blockBytes, bodyBytes, theVersion, maxRows, pointsAt, rowsAt}
 use Rattle.block.specs.Layout.{part, fieldsOf, filled, bodyOf, sealed, bytesOf}
 use Rattle.block.specs.Answers.{openAnswer}
-use Rattle.block.proofs.Cells.{point-cells, written-length, rows-length, rows-written}
+use Rattle.block.proofs.Cells.{point-cells, written-length, rows-written}
 use Rattle.block.proofs.Parts.{filled-length}
 use Rattle.block.proofs.Right.{right-block}
 use Rattle.block.proofs.Written.{points-counted, body-written}

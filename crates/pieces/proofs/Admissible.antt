@@ -8,16 +8,18 @@ use native.Mathlib.Decide.{decLe}
 use native.Mathlib.Omega.{arith}
 use lib.Dec.{T}
 use Rattle.lists.specs.Lists.{any}
-use Rattle.lists.proofs.Tests.{and-l, and-r, and-i, same-test}
-use Rattle.lists.proofs.Lists.{every-append}
+use Rattle.lists.proofs.Tests.{and-l, and-r, and-i, same-test, neither-l, neither-r, neither-i}
+use Rattle.lists.proofs.Lists.{every-append, any-or}
+use Rattle.lists.proofs.Counts.{ind, ind-no, count-append, count-none, none-counted}
 use Rattle.mesh.specs.declared.Row.{Row}
 use Rattle.mesh.specs.Mesh.{Face, sameFace, uses, reversed, numbersFit}
+use Rattle.mesh.proofs.Faces.{on, back, stay, same-turned, FaceOf, no-p, no-q, no-r, no-s}
+use Rattle.mesh.proofs.Counted.{face-hit, hits, hits-turned}
+use Rattle.mesh.proofs.Rule.{keeps-hits, hits-keep}
 use Rattle.ring.specs.Ring.{Site, m}
 use Rattle.ring.specs.Sound.{SoundChain, SoundRing}
 use Rattle.pieces.specs.Triangulation.{Tri, side, cut, span, newRows, tableAfter}
 use Rattle.pieces.specs.Admissible.{admissible, keptUses, pieceAdmissible}
-use Rattle.pieces.proofs.Counting.{nor-l, nor-r, nor-i, tally, tally-no, any-or, count-append, count-none, none-count}
-use Rattle.pieces.proofs.Faces.{on, back, stay, same→, FaceOf, no-p, no-q, no-r, no-s, face-one, users, users-turned, mesh-users, users-mesh}
 use Rattle.pieces.proofs.Trees.{endOf, end-span, end-more, aTop, bTop, aFace, bFace, ringFace, closingFree, piece-side, piece-cut}
 use Rattle.pieces.proofs.Once.{with-end, with-a, with-b, of-three, own, users-cut, users-own, new-once}
 use Rattle.pieces.proofs.Sound.{countOf, keptUsers, table-users, kept-fit, outer-own, next-link, last-link, all-differ, new-proper}
@@ -29,14 +31,14 @@ module _ (site : Site) where
   free→ f h =
       let kept = site .kept in
       let k = rw (any-or (uses f) (uses (reversed f)) kept) at h in
-      (count-none (uses f) kept (search (nor-l)), count-none (uses (reversed f)) kept (search (nor-r)))
+      (count-none (uses f) kept (search (neither-l)), count-none (uses (reversed f)) kept (search (neither-r)))
 
   →free : (f : Face) → keptUsers site f ≡ 0 → keptUsers site (reversed f) ≡ 0 → T (not (keptUses site f))
   →free f g h =
       let kept = site .kept in
-      let k = none-count (uses f) kept g in
-      let l = none-count (uses (reversed f)) kept h in
-      rw (any-or (uses f) (uses (reversed f)) kept) (search (nor-i))
+      let k = none-counted (uses f) kept g in
+      let l = none-counted (uses (reversed f)) kept h in
+      rw (any-or (uses f) (uses (reversed f)) kept) (search (neither-i))
 
   -- the faces of a and b with a diagonal, either way round
   abbrev DiagonalFree : ℕ → ℕ → Type 0
@@ -48,7 +50,7 @@ module _ (site : Site) where
   unfolding closingFree any
   closing→ i l r h =
       let j = endOf i (cut l r) in
-      (free→ (aFace site i j) (search (nor-l)), free→ (bFace site i j) (search (nor-l, nor-r)))
+      (free→ (aFace site i j) (search (neither-l)), free→ (bFace site i j) (search (neither-l, neither-r)))
 
   →closing : (i : ℕ) (l r : Tri) → DiagonalFree i (endOf i (cut l r)) → T (closingFree site i (cut l r))
   unfolding closingFree any
@@ -56,13 +58,13 @@ module _ (site : Site) where
       let j = endOf i (cut l r) in
       let a = →free (aFace site i j) (h .0 .0) (h .0 .1) in
       let b = →free (bFace site i j) (h .1 .0) (h .1 .1) in
-      search (nor-i)
+      search (neither-i)
 
   -- ---- an admissible triangulation has no face that a kept row uses, but for its sides
 
   module _ (f : Face) (stands : 1 ≤ keptUsers site f) where
-    away : (g : Face) → keptUsers site g ≡ 0 → tally (sameFace f g) ≡ 0
-    away g h = tally-no (sameFace f g) (λ k. omega (arith, users-turned f g (site .kept) (same→ f g k) h))
+    away : (g : Face) → keptUsers site g ≡ 0 → ind (sameFace f g) ≡ 0
+    away g h = ind-no (sameFace f g) (λ k. omega (arith, hits-turned f g (site .kept) (same-turned f g k), h))
 
     -- the face is none of those of the sides from i to j, each way that a new row uses them
     abbrev SidesAway : ℕ → ℕ → Type 0
@@ -107,13 +109,13 @@ module _ (site : Site) where
 
   -- no face has two users among the kept rows and these
   abbrev OneUser : List Row → Type 0
-  OneUser rows = (f : Face) → keptUsers site f + users f rows ≤ 1
+  OneUser rows = (f : Face) → keptUsers site f + hits f rows ≤ 1
 
   in-a : (i : ℕ) (l r : Tri) → OneUser (newRows site i (cut l r)) → {f : Face} → FaceOf f (aTop site i l r) → keptUsers site f ≡ 0
-  in-a i l r one {f} h = omega (arith, one f, users-cut site f i l r, face-one f (aTop site i l r) h)
+  in-a i l r one {f} h = omega (arith, one f, users-cut site f i l r, face-hit f (aTop site i l r) h)
 
   in-b : (i : ℕ) (l r : Tri) → OneUser (newRows site i (cut l r)) → {f : Face} → FaceOf f (bTop site i l r) → keptUsers site f ≡ 0
-  in-b i l r one {f} h = omega (arith, one f, users-cut site f i l r, face-one f (bTop site i l r) h)
+  in-b i l r one {f} h = omega (arith, one f, users-cut site f i l r, face-hit f (bTop site i l r) h)
 
   -- the closing side, each way that a new row uses it
   abbrev TopFree : ℕ → ℕ → Type 0
@@ -152,7 +154,7 @@ module _ (site : Site) (sound : SoundChain site) (t : Tri) (whole : span t ≡ m
   unfolding with-end
   one-user top h f = go (decLe 1 (keptUsers site f))
     where
-      go : Dec (1 ≤ keptUsers site f) → keptUsers site f + users f (newRows site 1 t) ≤ 1
+      go : Dec (1 ≤ keptUsers site f) → keptUsers site f + hits f (newRows site 1 t) ≤ 1
       go (no none) = omega (arith, new-once site (all-differ site sound (omega arith)) f 1 t (omega arith) (omega (arith, ends-at)))
       go (yes s) =
           let sides : SidesAway site f s 1 (endOf 1 t) =
@@ -169,13 +171,13 @@ module _ (site : Site) (sound : SoundChain site) (t : Tri) (whole : span t ≡ m
       let fit = numbersFit (countOf site) in
       let old = kept-fit site sound in
       let new = new-proper site sound (omega arith) 1 t (omega arith) (omega (arith, ends-at)) in
-      users-mesh (countOf site) (site .kept ++ newRows site 1 t)
+      hits-keep (countOf site) (site .kept ++ newRows site 1 t)
       (rw (every-append fit (site .kept) (newRows site 1 t)) (search (and-i)))
       (λ f. omega (arith, one-user top h f, count-append (uses f) (site .kept) (newRows site 1 t)))
 
   one-if : T (admissible site t) → OneUser site (newRows site 1 t)
   unfolding admissible tableAfter
-  one-if h f = omega (arith, mesh-users (countOf site) _ h f, count-append (uses f) (site .kept) (newRows site 1 t))
+  one-if h f = omega (arith, keeps-hits (countOf site) _ h f, count-append (uses f) (site .kept) (newRows site 1 t))
 
   top-if : T (admissible site t) → TopFree site 1 (m site)
   top-if h = rw ends-at at (top t (one-if h) (omega arith))
@@ -204,8 +206,8 @@ chain-admissible site chain t whole three =
     same-test (admissible site t) (not (any a kept) && not (any b kept) && pieceAdmissible site 1 t)
     (λ h.
     let top = top-if site chain t whole three h in
-    let na = none-count a kept (top .0) in
-    let nb = none-count b kept (top .1) in
+    let na = none-counted a kept (top .0) in
+    let nb = none-counted b kept (top .1) in
     let piece = admissible-if site 1 t (one-if site chain t whole three h) in
     search (and-i))
     (λ h.

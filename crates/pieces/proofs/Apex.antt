@@ -8,7 +8,8 @@ use native.Mathlib.Omega.{arith}
 use lib.Dec.{T, eqb, eqb→eq, eqb-refl, T-not}
 use Rattle.lists.specs.Lists.{numbersFrom}
 use Rattle.lists.proofs.Tests.{and-l, and-r, and-i}
-use Rattle.lists.proofs.Lists.{any-i, any-e, first-some, first-none, numbers-e, numbers-i}
+use Rattle.lists.proofs.Lists.{any-i, any-e, first-some, first-none}
+use Rattle.lists.proofs.Numbers.{numbers-e, numbers-i, first-no}
 use Rattle.measure.specs.declared.Quality.{Quality}
 use Rattle.measure.specs.Measure.{asGood}
 use Rattle.measure.proofs.Order.{_≈_, as-good, from-as-good, one-fraction}
@@ -16,7 +17,6 @@ use Rattle.ring.specs.Ring.{Site}
 use Rattle.pieces.specs.Triangulation.{Tri, side, cut, span}
 use Rattle.pieces.specs.Admissible.{pieceAdmissible}
 use Rattle.pieces.specs.Best.{worstOfWay, pieceWays, bestWorst, hasApex, reaches, apex}
-use Rattle.pieces.proofs.Lists.{first-no}
 use Rattle.pieces.proofs.Ways.{span-over}
 use Rattle.pieces.proofs.Split.{Cuts}
 use Rattle.pieces.proofs.Worsts.{Way, Reached, way-in, in-way, best-there, best-reached}

@@ -1,7 +1,3 @@
-pub mod Counting
-pub mod Lists
-pub mod Faces
-pub mod Links
 pub mod Trees
 pub mod Once
 pub mod Sound

@@ -6,14 +6,17 @@ use mathlib.Core.List.{_∷_, _++_}
 use mathlib.Core.Logic.{_⊎_, inl, inr, _≢_}
 use mathlib.Core.Path.{_≡_, refl, sym, _∙_}
 use native.Mathlib.Omega.{arith}
-use lib.Dec.{T, eqb, eqb→eq, eqb-refl}
+use borrow.Author.Tests.{eq-eqb, ne-eqb}
+use lib.Dec.{T, eqb, eqb→eq}
 use Rattle.lists.specs.Lists.{any, those}
+use Rattle.lists.proofs.Counts.{Alt, most-one, alt, join, ind, ind-or, ind-less, count-cons, count-append}
+use Rattle.lists.proofs.Tests.{eq-test}
 use Rattle.mesh.specs.declared.Row.{Row}
 use Rattle.mesh.specs.Mesh.{Face, faces, sameFace, uses}
+use Rattle.mesh.proofs.Faces.{Turned, as-is, once, twice, on, back, same-turned, turned-same, turned-sym, turned-trans, turned-equal}
+use Rattle.mesh.proofs.Counted.{hits}
 use Rattle.ring.specs.Ring.{Site, m}
 use Rattle.pieces.specs.Triangulation.{Tri, side, cut, v, newRows}
-use Rattle.pieces.proofs.Counting.{Alt, most-one, alt, join, tally, tally-or, tally-less, count-cons, count-append}
-use Rattle.pieces.proofs.Faces.{equal-test, Turned, as-is, once, twice, on, back, same→, →same, turned-sym, turned-trans, turned-equal, users}
 use Rattle.pieces.proofs.Trees.{endOf, end-more, aTop, bTop, rows-side, rows-cut}
 
 -- ---- the faces of the new rows
@@ -21,7 +24,7 @@ use Rattle.pieces.proofs.Trees.{endOf, end-more, aTop, bTop, rows-side,
 module _ (site : Site) (f : Face) where
   -- one if the face is that of an end with two points of the ring
   unfoldable pub with-end : ℕ → ℕ → ℕ → ℕ
-  with-end e i j = tally (sameFace f (e, v site i, v site j))
+  with-end e i j = ind (sameFace f (e, v site i, v site j))
 
   abbrev pub with-a : ℕ → ℕ → ℕ
   with-a = with-end (site .a)
@@ -31,7 +34,7 @@ module _ (site : Site) (f : Face) where
 
   -- one if it is that of three points of the ring
   unfoldable pub of-three : ℕ → ℕ → ℕ → ℕ
-  of-three i k j = tally (sameFace f (v site i, v site k, v site j))
+  of-three i k j = ind (sameFace f (v site i, v site k, v site j))
 
   -- the faces of the new rows
   unfoldable pub own : ℕ → Tri → ℕ
@@ -41,25 +44,25 @@ module _ (site : Site) (f : Face) where
       both : ℕ → ℕ → ℕ → ℕ
       both i k j = of-three i k j + with-a j k + with-a i j + with-a k i + (with-b k j + with-b j i + with-b i k + of-three i j k)
 
-  uses-least : (row : Row) → tally (uses f row)
-      ≤ tally (sameFace f (row .q, row .r, row .s)) + tally (sameFace f (row .p, row .s, row .r))
-      + tally (sameFace f (row .p, row .q, row .s)) + tally (sameFace f (row .p, row .r, row .q))
+  uses-least : (row : Row) → ind (uses f row)
+      ≤ ind (sameFace f (row .q, row .r, row .s)) + ind (sameFace f (row .p, row .s, row .r))
+      + ind (sameFace f (row .p, row .q, row .s)) + ind (sameFace f (row .p, row .r, row .q))
   unfolding uses faces any
   uses-least row =
       four (sameFace f (row .q, row .r, row .s)) (sameFace f (row .p, row .s, row .r))
       (sameFace f (row .p, row .q, row .s)) (sameFace f (row .p, row .r, row .q))
     where
-      four : (a b c d : Bool) → tally (a || (b || (c || (d || false)))) ≤ tally a + tally b + tally c + tally d
-      four a b c d = omega (arith, tally-or a (b || (c || (d || false))), tally-or b (c || (d || false)), tally-or c (d || false), tally-or d false)
+      four : (a b c d : Bool) → ind (a || (b || (c || (d || false)))) ≤ ind a + ind b + ind c + ind d
+      four a b c d = omega (arith, ind-or a (b || (c || (d || false))), ind-or b (c || (d || false)), ind-or c (d || false), ind-or d false)
 
-  turn-on : (x y z : ℕ) → tally (sameFace f (y, z, x)) ≤ tally (sameFace f (x, y, z))
-  turn-on x y z = tally-less (sameFace f (y, z, x)) (sameFace f (x, y, z)) (λ h. →same _ _ (turned-trans _ _ _ (same→ _ _ h) on))
+  turn-on : (x y z : ℕ) → ind (sameFace f (y, z, x)) ≤ ind (sameFace f (x, y, z))
+  turn-on x y z = ind-less (sameFace f (y, z, x)) (sameFace f (x, y, z)) (λ h. turned-same _ _ (turned-trans (same-turned _ _ h) on))
 
-  turn-back : (x y z : ℕ) → tally (sameFace f (z, x, y)) ≤ tally (sameFace f (x, y, z))
-  turn-back x y z = tally-less (sameFace f (z, x, y)) (sameFace f (x, y, z)) (λ h. →same _ _ (turned-trans _ _ _ (same→ _ _ h) back))
+  turn-back : (x y z : ℕ) → ind (sameFace f (z, x, y)) ≤ ind (sameFace f (x, y, z))
+  turn-back x y z = ind-less (sameFace f (z, x, y)) (sameFace f (x, y, z)) (λ h. turned-same _ _ (turned-trans (same-turned _ _ h) back))
 
-  pub users-cut : (i : ℕ) (l r : Tri) → users f (newRows site i (cut l r))
-      ≡ tally (uses f (aTop site i l r)) + tally (uses f (bTop site i l r)) + (users f (newRows site i l) + users f (newRows site (endOf i l) r))
+  pub users-cut : (i : ℕ) (l r : Tri) → hits f (newRows site i (cut l r))
+      ≡ ind (uses f (aTop site i l r)) + ind (uses f (bTop site i l r)) + (hits f (newRows site i l) + hits f (newRows site (endOf i l) r))
   users-cut i l r =
       let left = newRows site i l in
       let right = newRows site (endOf i l) r in
@@ -67,7 +70,7 @@ module _ (site : Site) (f : Face) where
       let b = count-cons (uses f) (bTop site i l r) (left ++ right) in
       rw (rows-cut site i l r) (omega (arith, count-append (uses f) left right))
 
-  pub users-own : (i : ℕ) (t : Tri) → users f (newRows site i t) ≤ own i t
+  pub users-own : (i : ℕ) (t : Tri) → hits f (newRows site i t) ≤ own i t
   unfolding those own with-end of-three
   users-own i side = rw (rows-side site i) (omega arith)
   users-own i (cut l r) =
@@ -105,7 +108,7 @@ module _ (site : Site) where
   place-is (suc n) i g h f =
       go (eqb (v site i) (v site (suc n)))
       (λ t. f (suc n) (omega arith) (omega arith) (eqb→eq (v site i) (v site (suc n)) t))
-      (λ e. equal-test (v site i) (v site (suc n)) (rw e))
+      (λ e. eq-test (v site i) (v site (suc n)) (rw e))
       (λ l. place-is n i g l (λ j a b. f j a (omega arith)))
     where
       go : (b : Bool) → (T b → i ≡ suc n) → (i ≡ suc n → T b) → (i ≤ n → placeOf n (v site i) ≡ i)
@@ -148,14 +151,6 @@ module _ (site : Site) where
   abbrev Seen : ℕ → ℕ → ℕ → ℕ → ℕ → ℕ → Type 0
   Seen x y z c i j = (kind x + (kind y + kind z) ≡ c) × (min (low x) (min (low y) (low z)) ≡ i) × (max (high x) (max (high y) (high z)) ≡ j)
 
-pick-true : (b : Bool) (A C : ℕ) → T b → cond b A C ≡ A
-pick-true true A C h = refl
-pick-true false A C h = absurd h
-
-pick-false : (b : Bool) (A C : ℕ) → (T b → ⊥) → cond b A C ≡ C
-pick-false true A C h = absurd (h tt)
-pick-false false A C h = refl
-
 -- ---- no face twice
 
 module _ (site : Site) (d : Different site) where
@@ -164,20 +159,20 @@ module _ (site : Site) (d : Different site) where
 
   label-a : (A B : ℕ) (g : ℕ → ℕ) → label site A B g (site .a) ≡ A
   unfolding label
-  label-a A B g = pick-true (eqb (site .a) (site .a)) A _ (eqb-refl (site .a))
+  label-a A B g = rw (eq-eqb (site .a) (site .a) refl)
 
   label-b : (A B : ℕ) (g : ℕ → ℕ) → label site A B g (site .b) ≡ B
   unfolding label
-  label-b A B g =
-      pick-false (eqb (site .b) (site .a)) A _ (λ h. d .ends (sym (eqb→eq (site .b) (site .a) h)))
-      ∙ pick-true (eqb (site .b) (site .b)) B _ (eqb-refl (site .b))
+  label-b A B g = rw (ne-eqb (site .b) (site .a) (λ e. d .ends (sym e)), eq-eqb (site .b) (site .b) refl)
 
   label-v : (A B : ℕ) (g : ℕ → ℕ) (i : ℕ) → OnRing site i → label site A B g (v site i) ≡ g i
   unfolding label
   label-v A B g i l =
-      pick-false (eqb (v site i) (site .a)) A _ (λ h. d .not-a i l (sym (eqb→eq (v site i) (site .a) h)))
-      ∙ pick-false (eqb (v site i) (site .b)) B _ (λ h. d .not-b i l (sym (eqb→eq (v site i) (site .b) h)))
-      ∙ rw (place-is site (m site) i (l .0) (l .1) (λ j a b. d .points i j l (a, b)))
+      rw (
+        ne-eqb (v site i) (site .a) (λ e. d .not-a i l (sym e)),
+        ne-eqb (v site i) (site .b) (λ e. d .not-b i l (sym e)),
+        place-is site (m site) i (l .0) (l .1) (λ j a b. d .points i j l (a, b)),
+      )
 
   labels-a : Labelled site (site .a) 1 (suc (m site)) 0
   unfolding kind low high
@@ -215,10 +210,10 @@ module _ (site : Site) (d : Different site) where
 
     -- a face with three different numbers is not itself the other way round
     pair : (x y z c i j : ℕ) → x ≢ y → x ≢ z → y ≢ z → Seen site x y z c i j
-        → Alt (tally (sameFace f (x, y, z)) + tally (sameFace f (x, z, y))) (Spot c i j)
+        → Alt (ind (sameFace f (x, y, z)) + ind (sameFace f (x, z, y))) (Spot c i j)
     pair x y z c i j xy xz yz seen =
-        join (alt (sameFace f (x, y, z)) (same→ f (x, y, z))) (alt (sameFace f (x, z, y)) (same→ f (x, z, y)))
-        (λ s t. one-way (turned-trans _ _ _ (turned-sym _ _ s) t))
+        join (alt (sameFace f (x, y, z)) (same-turned f (x, y, z))) (alt (sameFace f (x, z, y)) (same-turned f (x, z, y)))
+        (λ s t. one-way (turned-trans (turned-sym s) t))
         (λ s. spot x y z c i j s seen)
         (λ s. spot x z y c i j s (omega arith))
       where
@@ -288,8 +283,8 @@ module _ (site : Site) (d : Different site) where
         let vi = v site i in
         let vj = v site (suc i) in
         join {P = Spot 1 i (suc i)} {R = Spot 2 i (suc i)}
-        (alt (sameFace f (site .a, vj, vi)) (λ t. spot (site .a) vj vi 1 i (suc i) (same→ _ _ t) (omega arith)))
-        (alt (sameFace f (site .b, vi, vj)) (λ t. spot (site .b) vi vj 2 i (suc i) (same→ _ _ t) (omega arith)))
+        (alt (sameFace f (site .a, vj, vi)) (λ t. spot (site .a) vj vi 1 i (suc i) (same-turned _ _ t) (omega arith)))
+        (alt (sameFace f (site .b, vi, vj)) (λ t. spot (site .b) vi vj 2 i (suc i) (same-turned _ _ t) (omega arith)))
         (λ s t. omega arith)
         (λ s. omega arith)
         (λ s. omega arith)
@@ -317,5 +312,5 @@ module _ (site : Site) (d : Different site) where
         other s (inr t) = omega arith
 
   -- no face stands in two new rows
-  pub new-once : (f : Face) (i : ℕ) (t : Tri) → 1 ≤ i → endOf i t ≤ m site → users f (newRows site i t) ≤ 1
+  pub new-once : (f : Face) (i : ℕ) (t : Tri) → 1 ≤ i → endOf i t ≤ m site → hits f (newRows site i t) ≤ 1
   new-once f i t o h = omega (arith, users-own site f i t, own-sum f i t, most-one (at-sum f i t o h))

@@ -9,6 +9,7 @@ use native.Mathlib.Omega.{arith}
 use lib.Dec.{T, leb, leb→le, nleb→lt, not-T}
 use Rattle.lists.specs.Lists.{any}
 use Rattle.lists.proofs.Tests.{is-yes, is-no, no-is}
+use Rattle.lists.proofs.Numbers.{first-at}
 use Rattle.measure.specs.declared.Quality.{Quality}
 use Rattle.measure.specs.Measure.{worseOf, worst}
 use Rattle.measure.proofs.Order.{Fraction, _⊑_, _≈_, as-good, from-as-good, one-fraction, at-most-self, at-most-trans, clash}
@@ -18,7 +19,6 @@ use Rattle.ring.specs.Ring.{Site}
 use Rattle.pieces.specs.Triangulation.{Tri, side, cut, span, twoRows, newRows}
 use Rattle.pieces.specs.Admissible.{keptUses, triangleFace, diagonalFaces, pieceAdmissible}
 use Rattle.pieces.specs.Best.{worstOfWay, bestWorst, reaches, apex, sameBest}
-use Rattle.pieces.proofs.Lists.{first-at}
 use Rattle.pieces.proofs.Ways.{span-over}
 use Rattle.pieces.proofs.Split.{sideUsed, diagonal-used, neighbours-free, Cuts, cut-fits, fits-cut, side-admissible}
 use Rattle.pieces.proofs.Worsts.{Over, rows-fraction, rows-over, over-rows}

@@ -9,15 +9,16 @@ use lib.Dec.{T}
 use lib.ListN.{length}
 use Rattle.lists.specs.Lists.{every}
 use Rattle.lists.proofs.Tests.{and-i}
-use Rattle.lists.proofs.Lists.{every-at, every-append, those-e}
+use Rattle.lists.proofs.Lists.{every-append, those-e, every-those}
+use Rattle.lists.proofs.Counts.{count-split, count-member}
 use Rattle.mesh.specs.declared.Row.{Row}
-use Rattle.mesh.specs.Mesh.{Face, uses, numbersFit, Proper}
+use Rattle.mesh.specs.Mesh.{Face, uses, numbersFit}
+use Rattle.mesh.proofs.Counted.{hits}
+use Rattle.mesh.proofs.Rule.{keeps-fits, keeps-hits, proper-fits}
 use Rattle.ring.specs.Ring.{Site, Link, holdsEdge, link, m}
 use Rattle.ring.specs.Sound.{SoundChain, SoundRing}
+use Rattle.ring.proofs.Linking.{link-outer-a, link-outer-b, links-fit}
 use Rattle.pieces.specs.Triangulation.{Tri, side, cut, v, newRows}
-use Rattle.pieces.proofs.Counting.{count-split, count-member, every-those}
-use Rattle.pieces.proofs.Faces.{FaceOf, →uses, users, mesh-fit, mesh-users, fit→, →fit}
-use Rattle.pieces.proofs.Links.{Outer, link-outer, face-apart}
 use Rattle.pieces.proofs.Trees.{endOf, end-more, aRow, bRow, rows-side, rows-cut}
 use Rattle.pieces.proofs.Once.{OnRing, Different, apart}
 
@@ -27,16 +28,9 @@ countOf site = length (site .points)
 
 -- how many kept rows use the face
 abbrev pub keptUsers : Site → Face → ℕ
-keptUsers site f = users f (site .kept)
+keptUsers site f = hits f (site .kept)
 
 module _ (site : Site) where
-  -- The removed row that gives the link.
-  record RowOf (l : Link) : Type 0 where
-    row : Row
-    removed : List·Memᴰ row (site .removed)
-    proper : Proper (countOf site) row
-    outer : Outer (site .a) (site .b) l row
-
   -- The point, a and b are below the count, and the point is neither end.
   pub record PointApart (x : ℕ) : Type 0 where
     pub below-a : site .a < countOf site
@@ -52,51 +46,41 @@ module _ (site : Site) (sound : SoundChain site) where
   -- ---- removed and kept rows
 
   table-fit : T (every (numbersFit (countOf site)) (sound .table))
-  table-fit = mesh-fit (countOf site) (sound .table) (sound .meshed)
+  table-fit = keeps-fits (countOf site) (sound .table) (sound .meshed)
 
   pub kept-fit : T (every (numbersFit (countOf site)) (site .kept))
   kept-fit = rw (sound .staying) (every-those (numbersFit (countOf site)) _ (sound .table) table-fit)
 
   -- a face has one user at most, removed or kept
-  pub table-users : (f : Face) → users f (site .removed) + keptUsers site f ≤ 1
+  pub table-users : (f : Face) → hits f (site .removed) + keptUsers site f ≤ 1
   table-users f =
       let split = count-split (uses f) (holdsEdge (site .a) (site .b)) (sound .table) in
-      rw (sound .going, sound .staying) (omega (arith, mesh-users (countOf site) (sound .table) (sound .meshed) f))
+      rw (sound .going, sound .staying) (omega (arith, keeps-hits (countOf site) (sound .table) (sound .meshed) f))
 
-  -- what a removed row uses, no kept row uses
-  removed-own : {row : Row} (f : Face) → List·Memᴰ row (site .removed) → FaceOf f row → keptUsers site f ≡ 0
-  removed-own {row} f k h = omega (arith, table-users f, count-member (uses f) (site .removed) k (→uses f row h))
-
-  -- ---- the row of a link
-
-  row-of : {l : Link} → List·Memᴰ l (site .links) → RowOf site l
-  row-of {l} k =
+  -- a face that the row of each link uses, no kept row uses
+  removed-own : (face : Link → Face) → ((row : Row) → T (holdsEdge (site .a) (site .b) row) → T (uses (face (link (site .a) (site .b) row)) row))
+      → {l : Link} → List·Memᴰ l (site .links) → keptUsers site (face l) ≡ 0
+  removed-own face has {l} k =
       let found = Memᴰ·of-map (link (site .a) (site .b)) (site .removed) (rw (sound .linked) at k) in
       let row = found .0 in
-      let both = those-e (holdsEdge (site .a) (site .b)) (sound .table) (subst (λ rows. List·Memᴰ row rows) (sound .going) (found .1)) in
-      let outer = link-outer (site .a) (site .b) row ends-differ (both .1) in
-      record {
-        row = row;
-        removed = found .1;
-        proper = fit→ (countOf site) row (every-at (numbersFit (countOf site)) (sound .table) table-fit (both .0));
-        outer = subst (λ l. Outer (site .a) (site .b) l row) (found .2) outer;
-      }
+      let held = those-e (holdsEdge (site .a) (site .b)) (sound .table) (subst (λ rows. List·Memᴰ row rows) (sound .going) (found .1)) .1 in
+      let used = subst (λ l. T (uses (face l) row)) (found .2) (has row held) in
+      omega (arith, table-users (face l), count-member (uses (face l)) (site .removed) (found .1) used)
 
   -- the outer faces of a link are the removed rows' own
   pub outer-own : {l : Link} → List·Memᴰ l (site .links) → (keptUsers site (site .a, l .1, l .0) ≡ 0) × (keptUsers site (site .b, l .0, l .1) ≡ 0)
-  outer-own {l} k =
-      let r = row-of k in
-      (removed-own (site .a, l .1, l .0) (r .removed) (r .outer .with-a), removed-own (site .b, l .0, l .1) (r .removed) (r .outer .with-b))
+  outer-own k = (
+    removed-own (λ l. (site .a, l .1, l .0)) (link-outer-a (site .a) (site .b) ends-differ) k,
+    removed-own (λ l. (site .b, l .0, l .1)) (link-outer-b (site .a) (site .b) ends-differ) k,
+  )
 
   -- ---- the points of the ring
 
   link-apart : {l : Link} → List·Memᴰ l (site .links) → PointApart site (l .0) × PointApart site (l .1)
-  link-apart {l} k =
-      let r = row-of k in
-      let a = face-apart (countOf site) (r .row) (site .a, l .1, l .0) (r .proper) (r .outer .with-a) in
-      let b = face-apart (countOf site) (r .row) (site .b, l .0, l .1) (r .proper) (r .outer .with-b) in (
-        record { below-a = a .below-0; below-b = b .below-0; below = a .below-2; not-a = a .ne-02; not-b = b .ne-01 },
-        record { below-a = a .below-0; below-b = b .below-0; below = a .below-1; not-a = a .ne-01; not-b = b .ne-02 },
+  link-apart k =
+      let f = links-fit (site .a) (site .b) ends-differ (countOf site) (sound .table) (sound .meshed) (rw (sound .linked, sound .going) at k) in (
+        record { below-a = f .below-a; below-b = f .below-b; below = f .below-v; not-a = f .a-v; not-b = f .b-v },
+        record { below-a = f .below-a; below-b = f .below-b; below = f .below-w; not-a = f .a-w; not-b = f .b-w },
       )
 
   -- vi has a link to the next
@@ -130,7 +114,7 @@ module _ (site : Site) (sound : SoundChain site) where
         let ik = apart site all-differ i k o g (omega arith) in
         let ij = apart site all-differ i j o (omega arith) l in
         let kj = apart site all-differ k j (omega arith) h l in (
-          →fit (countOf site) (aRow site i k j) (
+          proper-fits (countOf site) (aRow site i k j) (
               record {
                 below-p = p .below-a;
                 below-q = p .below;
@@ -144,7 +128,7 @@ module _ (site : Site) (sound : SoundChain site) where
                 r-s = kj;
               }
               ),
-          →fit (countOf site) (bRow site i k j) (
+          proper-fits (countOf site) (bRow site i k j) (
               record {
                 below-p = p .below;
                 below-q = q .below;

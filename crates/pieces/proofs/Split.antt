@@ -7,12 +7,12 @@ use mathlib.Core.Path.{_≡_, sym, ap, _∙_, subst}
 use native.Mathlib.Omega.{arith}
 use lib.Dec.{T, leb, leb→le, le→leb, not-T}
 use Rattle.lists.specs.Lists.{any}
-use Rattle.lists.proofs.Tests.{and-l, and-r, and-i, yes-is, no-is}
+use Rattle.lists.proofs.Tests.{and-l, and-r, and-i, yes-is, no-is, neither-l, neither-r, neither-i}
 use Rattle.lists.proofs.Lists.{any-append}
+use Rattle.lists.proofs.Images.{flatMap-append}
 use Rattle.ring.specs.Ring.{Site}
 use Rattle.pieces.specs.Triangulation.{Tri, side, cut, span, triangles, closingSides, diagonals}
 use Rattle.pieces.specs.Admissible.{keptUses, triangleFace, diagonalFaces, pieceAdmissible}
-use Rattle.pieces.proofs.Lists.{neither-l, neither-r, neither, flat-append}
 use Rattle.pieces.proofs.Ways.{span-over}
 
 -- (i,j) is a diagonal, and a kept row uses a face of a or b with it
@@ -70,7 +70,7 @@ module _ (site : Site) where
   inside-cut i l r =
       let left = closingSides i l in
       let right = closingSides (i + span l) r in
-      ap (any (keptUses site)) (flat-append (diagonalFaces site) left right)
+      ap (any (keptUses site)) (flatMap-append (diagonalFaces site) left right)
       ∙ any-append (keptUses site) (flatMap (diagonalFaces site) left) (flatMap (diagonalFaces site) right)
 
   -- a piece's closing sides are its own, if it is a diagonal, and the diagonals inside
@@ -122,19 +122,19 @@ module _ (site : Site) where
 
   closing-free : (i : ℕ) (t : Tri) → T (not (sideUsed site i (i + span t))) → T (pieceAdmissible site i t) → T (not (closingUsed i t))
   closing-free i t s a =
-      subst (λ b. T (not b)) (sym (closing-own i t)) (neither (sideUsed site i (i + span t)) (insideUsed i t) s (inside-free i t a))
+      subst (λ b. T (not b)) (sym (closing-own i t)) (neither-i (sideUsed site i (i + span t)) (insideUsed i t) s (inside-free i t a))
 
   together : (i : ℕ) (l r : Tri) → Fits site i (i + span l) (i + span l + span r) l r → T (pieceAdmissible site i (cut l r))
   together i l r f =
       let k = i + span l in
       let used = keptUses site (triangleFace site (i, k, k + span r)) in
-      let below = neither (triangleUsed i l) (triangleUsed k r) (triangles-free i l (f .left)) (triangles-free k r (f .right)) in
-      let triangles = neither used (triangleUsed i l || triangleUsed k r) (f .triangle) below in
+      let below = neither-i (triangleUsed i l) (triangleUsed k r) (triangles-free i l (f .left)) (triangles-free k r (f .right)) in
+      let triangles = neither-i used (triangleUsed i l || triangleUsed k r) (f .triangle) below in
       let left = closing-free i l (f .left-side) (f .left) in
       let right = closing-free k r (f .right-side) (f .right) in
       all-free i (cut l r)
       (subst (λ b. T (not b)) (sym (triangles-cut i l r)) triangles)
-      (subst (λ b. T (not b)) (sym (inside-cut i l r)) (neither (closingUsed i l) (closingUsed k r) left right))
+      (subst (λ b. T (not b)) (sym (inside-cut i l r)) (neither-i (closingUsed i l) (closingUsed k r) left right))
 
   -- ---- the laws
 

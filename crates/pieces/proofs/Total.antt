@@ -1,10 +1,12 @@
 -- The total D of a triangulation's new rows. For a piece it is the sum over the piece's links less the D of its closing
 -- side, by the five-point identity at each triangle; so it is the same for every triangulation of the piece.
 use Prim.Native.Nat.{ℕ, _+_}
-use mathlib.Core.List.{List, [], _∷_, _++_, flatMap, append-assoc}
+use mathlib.Core.List.{List, [], _∷_, _++_, flatMap}
 use mathlib.Core.Path.{_≡_, refl, sym, ap, _∙_}
 use native.Mathlib.Nat.{add-assoc}
 use lib.IntN.{ℤ, pos, negℤ, _+ℤ_, +ℤ-idl, +ℤ-assoc, +ℤ-invr}
+use Rattle.lists.proofs.Images.{flatMap-append}
+use Rattle.lists.proofs.Sums.{sum-append}
 use Rattle.algebra.proofs.Normal.{var, con, _:+_, norm, same, _⊹_, ring-from}
 use Rattle.measure.specs.declared.Point.{Point}
 use Rattle.measure.specs.Measure.{D}
@@ -19,17 +21,7 @@ pub total-append :
     (points : List Point) (rows others : List Row)
     → totalD points (rows ++ others) ≡ totalD points rows +ℤ totalD points others
 unfolding totalD
-total-append points [] others = sym (+ℤ-idl (totalD points others))
-total-append points (row ∷ rows) others =
-    ap (λ t. rowD points row +ℤ t) (total-append points rows others)
-    ∙ sym (+ℤ-assoc (rowD points row) (totalD points rows) (totalD points others))
-
--- lists made one element after another, put together
-flat-append : {A B : Type 0} (f : A → List B) (xs ys : List A) → flatMap f (xs ++ ys) ≡ flatMap f xs ++ flatMap f ys
-unfolding flatMap
-flat-append f [] ys = refl
-flat-append f (x ∷ xs) ys =
-    ap (λ t. f x ++ t) (flat-append f xs ys) ∙ sym (append-assoc (f x) (flatMap f xs) (flatMap f ys))
+total-append points rows others = sum-append (rowD points) rows others
 
 -- two rows, then the totals of two tables
 two-and : (points : List Point) (t u : Row) (rows others : List Row)
@@ -69,9 +61,11 @@ module _ (site : Site) where
       +ℤ (totalD (site .points) (newRows site i l) +ℤ totalD (site .points) (newRows site (i + span l) r))
   unfolding newRows triangles twoRows flatMap rowD
   total-cut i l r =
-      let t : Row = record { p = site .a; q = v site i; r = v site (i + span l); s = v site (i + span l + span r); region = regionOf (site .removed) } in
-      let u : Row = record { p = v site i; q = v site (i + span l); r = v site (i + span l + span r); s = site .b; region = regionOf (site .removed) } in
-      ap (λ (rows : List Row). totalD (site .points) (t ∷ u ∷ rows)) (flat-append (twoRows site) (triangles i l) (triangles (i + span l) r))
+      let t : Row =
+      record { p = site .a; q = v site i; r = v site (i + span l); s = v site (i + span l + span r); region = regionOf (site .removed) } in
+      let u : Row =
+      record { p = v site i; q = v site (i + span l); r = v site (i + span l + span r); s = site .b; region = regionOf (site .removed) } in
+      ap (λ (rows : List Row). totalD (site .points) (t ∷ u ∷ rows)) (flatMap-append (twoRows site) (triangles i l) (triangles (i + span l) r))
       ∙ two-and (site .points) t u (newRows site i l) (newRows site (i + span l) r)
 
   -- the sides of one triangle, and what the two pieces leave of theirs
@@ -109,7 +103,8 @@ module _ (site : Site) where
   total-piece i side = +ℤ-idl (linkD (v site i) (v site (i + 1)))
   total-piece i (cut l r) =
       ap (λ (j : ℕ). totalD (site .points) (newRows site i (cut l r)) +ℤ linkD (v site i) (v site j)) (sym (add-assoc i (span l) (span r)))
-      ∙ step (totalD (site .points) (newRows site i (cut l r))) (totalD (site .points) (newRows site i l)) (totalD (site .points) (newRows site (i + span l) r))
+      ∙ step (totalD (site .points) (newRows site i (cut l r))) (totalD (site .points) (newRows site i l))
+      (totalD (site .points) (newRows site (i + span l) r))
       (chainD i l) (chainD (i + span l) r)
       (linkD (v site i) (v site (i + span l))) (linkD (v site (i + span l)) (v site (i + span l + span r))) (linkD (v site i) (v site (i + span l + span r)))
       (twoD i (i + span l) (i + span l + span r))

@@ -1,18 +1,18 @@
 -- A triangulation of a piece, taken apart: the triangle of the whole piece, and what its two smaller pieces have.
 use Prim.Native.Nat.{ℕ, suc, _+_, _<_}
-use mathlib.Core.Bool.{Bool, true, false, not, _&&_, _||_}
+use mathlib.Core.Bool.{Bool, true, not, _&&_}
 use mathlib.Core.List.{List, [], _∷_, _++_, map, map-append, flatMap}
 use mathlib.Core.Path.{_≡_, refl}
 use native.Mathlib.Omega.{arith}
 use Rattle.lists.specs.Lists.{any}
-use Rattle.lists.proofs.Tests.{and-l, and-r, and-i, same-test}
+use Rattle.lists.proofs.Tests.{and-l, and-r, and-i, same-test, not-or}
 use Rattle.lists.proofs.Lists.{any-append}
+use Rattle.lists.proofs.Images.{flatMap-append}
 use Rattle.mesh.specs.declared.Row.{Row}
 use Rattle.mesh.specs.Mesh.{Face}
 use Rattle.ring.specs.Ring.{Site}
 use Rattle.pieces.specs.Triangulation.{Tri, side, cut, span, triangles, closingSides, diagonals, v, regionOf, twoRows, newRows}
 use Rattle.pieces.specs.Admissible.{keptUses, triangleFace, diagonalFaces, pieceAdmissible}
-use Rattle.pieces.proofs.Counting.{flatMap-append}
 
 -- ---- where a piece ends
 
@@ -73,10 +73,6 @@ abbrev pub ringFace : Site → ℕ → ℕ → ℕ → Face
 ringFace site i k j = (v site i, v site k, v site j)
 
 -- ---- when it is admissible
-
-not-or : (a b : Bool) → not (a || b) ≡ not a && not b
-not-or true b = refl
-not-or false b = refl
 
 module _ (site : Site) where
   -- no kept row uses one of the faces, either way round

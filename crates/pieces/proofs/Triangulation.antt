@@ -10,11 +10,10 @@ use native.Mathlib.Omega.{arith}
 use lib.Dec.{T, eqb, eqb→eq}
 use lib.ListN.{length, length-append}
 use Rattle.lists.specs.Lists.{those, count}
-use Rattle.lists.proofs.Tests.{and-l, and-r, and-i}
+use Rattle.lists.proofs.Tests.{and-l, and-r, and-i, eq-test}
+use Rattle.lists.proofs.Counts.{Alt, none, most-one, reason, alt, join, ind, ind-yes, ind-no, count-cons, count-append, count-member}
 use Rattle.ring.specs.Ring.{Site}
 use Rattle.pieces.specs.Triangulation.{Tri, side, cut, span, Triangle, triangles, closingSides, diagonals, twoRows, newRows}
-use Rattle.pieces.proofs.Counting.{Alt, none, most-one, reason, alt, join, tally, tally-yes, tally-no, count-cons, count-append, count-member}
-use Rattle.pieces.proofs.Faces.{equal-test}
 use Rattle.pieces.proofs.Trees.{endOf, end-span, end-more, triangles-cut}
 
 -- ---- how many triangles and rows
@@ -74,17 +73,17 @@ side→ : (d e : ℕ × ℕ) → T (sameSide d e) → (d .0 ≡ e .0) × (d .1 �
 side→ d e h = (eqb→eq (d .0) (e .0) (and-l (eqb (d .0) (e .0)) _ h), eqb→eq (d .1) (e .1) (and-r (eqb (d .0) (e .0)) _ h))
 
 →side : (d e : ℕ × ℕ) → d .0 ≡ e .0 → d .1 ≡ e .1 → T (sameSide d e)
-→side d e f g = and-i (eqb (d .0) (e .0)) (eqb (d .1) (e .1)) (equal-test _ _ f) (equal-test _ _ g)
+→side d e f g = and-i (eqb (d .0) (e .0)) (eqb (d .1) (e .1)) (eq-test _ _ f) (eq-test _ _ g)
 
-side-yes : (d e : ℕ × ℕ) → d .0 ≡ e .0 → d .1 ≡ e .1 → tally (sameSide d e) ≡ 1
-side-yes d e f g = tally-yes (sameSide d e) (→side d e f g)
+side-yes : (d e : ℕ × ℕ) → d .0 ≡ e .0 → d .1 ≡ e .1 → ind (sameSide d e) ≡ 1
+side-yes d e f g = ind-yes (sameSide d e) (→side d e f g)
 
-side-no : (d e : ℕ × ℕ) → ((d .0 ≡ e .0) × (d .1 ≡ e .1) → ⊥) → tally (sameSide d e) ≡ 0
-side-no d e f = tally-no (sameSide d e) (λ h. f (side→ d e h))
+side-no : (d e : ℕ × ℕ) → ((d .0 ≡ e .0) × (d .1 ≡ e .1) → ⊥) → ind (sameSide d e) ≡ 0
+side-no d e f = ind-no (sameSide d e) (λ h. f (side→ d e h))
 
 -- a triangle's three edges are different
 three-edges : (d : ℕ × ℕ) (i k j : ℕ) → i < k → k < j
-    → tally (hasEdge d (i, k, j)) ≡ tally (sameSide d (i, k)) + tally (sameSide d (k, j)) + tally (sameSide d (i, j))
+    → ind (hasEdge d (i, k, j)) ≡ ind (sameSide d (i, k)) + ind (sameSide d (k, j)) + ind (sameSide d (i, j))
 unfolding hasEdge
 three-edges d i k j g h =
     one-of (sameSide d (i, k)) (sameSide d (k, j)) (sameSide d (i, j))
@@ -92,7 +91,7 @@ three-edges d i k j g h =
     (λ a b. omega (arith, side→ d (i, k) a, side→ d (i, j) b))
     (λ a b. omega (arith, side→ d (k, j) a, side→ d (i, j) b))
   where
-    one-of : (a b c : Bool) → (T a → T b → ⊥) → (T a → T c → ⊥) → (T b → T c → ⊥) → tally (a || b || c) ≡ tally a + tally b + tally c
+    one-of : (a b c : Bool) → (T a → T b → ⊥) → (T a → T c → ⊥) → (T b → T c → ⊥) → ind (a || b || c) ≡ ind a + ind b + ind c
     one-of true true c f g h = absurd (f tt tt)
     one-of true false true f g h = absurd (g tt tt)
     one-of true false false f g h = refl
@@ -103,13 +102,13 @@ three-edges d i k j g h =
 module _ (d : ℕ × ℕ) where
   -- the triangles that have the edge, the closing side counted once more
   bordered : ℕ → Tri → ℕ
-  bordered i t = count (hasEdge d) (triangles i t) + tally (sameSide d (i, endOf i t))
+  bordered i t = count (hasEdge d) (triangles i t) + ind (sameSide d (i, endOf i t))
 
-  bordered-side : (i : ℕ) → bordered i side ≡ tally (sameSide d (i, suc i))
+  bordered-side : (i : ℕ) → bordered i side ≡ ind (sameSide d (i, suc i))
   unfolding bordered triangles those
   bordered-side i = omega arith
 
-  bordered-cut : (i : ℕ) (l r : Tri) → bordered i (cut l r) ≡ bordered i l + bordered (endOf i l) r + 2 * tally (sameSide d (i, endOf (endOf i l) r))
+  bordered-cut : (i : ℕ) (l r : Tri) → bordered i (cut l r) ≡ bordered i l + bordered (endOf i l) r + 2 * ind (sameSide d (i, endOf (endOf i l) r))
   unfolding bordered
   bordered-cut i l r =
       let k = endOf i l in
@@ -121,7 +120,7 @@ module _ (d : ℕ × ℕ) where
   -- ---- the closing sides, each of which stands once
 
   closing-top : (i : ℕ) (l r : Tri) → count (sameSide d) (closingSides i (cut l r))
-      ≡ tally (sameSide d (i, endOf i (cut l r))) + count (sameSide d) (diagonals i (cut l r))
+      ≡ ind (sameSide d (i, endOf i (cut l r))) + count (sameSide d) (diagonals i (cut l r))
   unfolding closingSides diagonals
   closing-top i l r = rw (end-span (endOf i l) r, end-span i l) (count-cons (sameSide d) (i, i + span l + span r) (diagonals i (cut l r)))
 
@@ -163,7 +162,7 @@ module _ (d : ℕ × ℕ) where
 
 module _ (j : ℕ) where
   -- a side of the ring closes no piece
-  no-closing : (i : ℕ) (l r : Tri) → tally (sameSide (j, suc j) (i, endOf (endOf i l) r)) ≡ 0
+  no-closing : (i : ℕ) (l r : Tri) → ind (sameSide (j, suc j) (i, endOf (endOf i l) r)) ≡ 0
   no-closing i l r = side-no (j, suc j) (i, endOf (endOf i l) r) (λ e. omega (arith, end-more i l, end-more (endOf i l) r))
 
   before : (i : ℕ) (t : Tri) → j < i → bordered (j, suc j) i t ≡ 0

@@ -9,9 +9,9 @@ use native.Mathlib.Omega.{arith}
 use lib.Dec.{leb, leb→le}
 use Rattle.lists.specs.Lists.{numbersFrom}
 use Rattle.lists.proofs.Tests.{is-yes}
-use Rattle.lists.proofs.Lists.{numbers-e, numbers-i}
+use Rattle.lists.proofs.Numbers.{numbers-e, numbers-i}
+use Rattle.lists.proofs.Images.{flatMap-i, flatMap-e, flatMap-same}
 use Rattle.pieces.specs.Triangulation.{Tri, side, cut, span, waysWithin, ways}
-use Rattle.pieces.proofs.Lists.{flat-i, flat-e, flat-same}
 
 pub span-over : (t : Tri) → 1 ≤ span t
 unfolding span
@@ -34,10 +34,10 @@ within-span (suc depth) n t m h = go (leb n 1) refl (λ k. within-span depth k) 
   where
     at-cut : ((k : ℕ) (t : Tri) → List·Memᴰ t (waysWithin depth k) → 1 ≤ k → span t ≡ k) → List·Memᴰ t (cuts depth n) → span t ≡ n
     at-cut below m =
-        let at = flat-e (cutsAt depth n) (numbersFrom 1 (n - 1)) m in
+        let at = flatMap-e (cutsAt depth n) (numbersFrom 1 (n - 1)) m in
         let k = at .0 in
         let range = numbers-e 1 (n - 1) (at .1) in
-        let inner = flat-e (λ l. map (cut l) (waysWithin depth (n - k))) (waysWithin depth k) (at .2) in
+        let inner = flatMap-e (λ l. map (cut l) (waysWithin depth (n - k))) (waysWithin depth k) (at .2) in
         let l = inner .0 in
         let right = Memᴰ·of-map (cut l) (waysWithin depth (n - k)) (inner .2) in
         let left-span = below k l (inner .1) (range .0) in
@@ -81,8 +81,8 @@ within-all (suc depth) (cut l r) h =
         let k = span l in
         let rest : n - k ≡ span r = omega arith in
         let range : k < 1 + (n - 1) = omega (arith, span-over r) in
-        flat-i (cutsAt depth n) (numbersFrom 1 (n - 1)) (numbers-i 1 (n - 1) k (span-over l) range)
-        (flat-i (λ l. map (cut l) (waysWithin depth (n - k))) (waysWithin depth k) ml
+        flatMap-i (cutsAt depth n) (numbersFrom 1 (n - 1)) (numbers-i 1 (n - 1) k (span-over l) range)
+        (flatMap-i (λ l. map (cut l) (waysWithin depth (n - k))) (waysWithin depth k) ml
         (Memᴰ·map (cut l) (subst (λ s. List·Memᴰ r (waysWithin depth s)) (sym rest) mr)))
 
 pub ways-all : (t : Tri) → List·Memᴰ t (ways (span t))
@@ -111,7 +111,7 @@ within-same (suc d) (suc e) n h within-d within-e = go (leb n 1) (within-same d 
         → ((n : ℕ) → 1 ≤ n → n ≤ d → n ≤ e → waysWithin d n ≡ waysWithin e n)
         → cond b (side ∷ []) (cuts d n) ≡ cond b (side ∷ []) (cuts e n)
     go true below = refl
-    go false below = flat-same (cutsAt d n) (cutsAt e n) (numbersFrom 1 (n - 1)) (at below)
+    go false below = flatMap-same (cutsAt d n) (cutsAt e n) (numbersFrom 1 (n - 1)) (at below)
 
 pub ways-within : (depth n : ℕ) → 1 ≤ n → n ≤ depth → waysWithin depth n ≡ ways n
 ways-within depth n h k = within-same depth n n h k (omega arith)

@@ -9,6 +9,7 @@ use mathlib.Core.Path.{_≡_, refl, ap, subst}
 use native.Mathlib.Omega.{arith}
 use lib.Dec.{T}
 use Rattle.lists.proofs.Lists.{those-e, those-i}
+use Rattle.lists.proofs.Images.{flatMap-append}
 use Rattle.measure.specs.declared.Quality.{Quality}
 use Rattle.measure.specs.declared.Point.{Point}
 use Rattle.measure.specs.Measure.{worst}
@@ -20,7 +21,6 @@ use Rattle.ring.specs.Ring.{Site}
 use Rattle.pieces.specs.Triangulation.{Tri, side, cut, span, triangles, twoRows, newRows, ways}
 use Rattle.pieces.specs.Admissible.{pieceAdmissible}
 use Rattle.pieces.specs.Best.{worstOfWay, pieceWays, bestWorst}
-use Rattle.pieces.proofs.Lists.{flat-append}
 use Rattle.pieces.proofs.Ways.{ways-span, ways-all}
 use Rattle.pieces.proofs.Split.{Cuts}
 
@@ -76,7 +76,7 @@ module _ (site : Site) where
   unfolding newRows triangles flatMap
   rows-cut i l r =
       ap (λ rows. twoRows site (i, i + span l, i + span l + span r) ++ rows)
-      (flat-append (twoRows site) (triangles i l) (triangles (i + span l) r))
+      (flatMap-append (twoRows site) (triangles i l) (triangles (i + span l) r))
 
   pub over-side : (q : Quality) (i : ℕ) → Over site q (newRows site i side)
   unfolding newRows triangles flatMap

@@ -6,23 +6,19 @@ use native.Mathlib.Omega.{arith}
 use lib.ListN.{length, getD, set, drop, length-map}
 use lib.Seq.{drop-cons, getD-set-same, getD-set-other}
 use Rattle.lists.specs.Lists.{numbersFrom}
-use Rattle.lists.proofs.Lists.{numbers-e, numbers-length, numbers-at}
-use Rattle.mesh.proofs.Lists.{map-same}
+use Rattle.lists.proofs.Numbers.{numbers-e, map-numbers-length, map-numbers-at, map-numbers-append}
+use Rattle.lists.proofs.Images.{map-same, map-at}
 use Rattle.ring.specs.declared.Links.{Links}
 use Rattle.ring.specs.Ring.{Link, starts}
 use Rattle.ring.specs.Found.{ends, linksIn}
-use Rattle.ring.proofs.Lists.{map-at, map-more}
 
 pub in-length : (links : Links) → length (linksIn links) ≡ links .n
 unfolding linksIn
-in-length links = length-map (numbersFrom 0 (links .n)) _ ∙ numbers-length 0 (links .n)
+in-length links = map-numbers-length _ (links .n)
 
 pub in-at : (links : Links) (i : ℕ) → i < links .n → getD (linksIn links) i (0, 0) ≡ (getD (links .starts) i 0, getD (links .ends) i 0)
 unfolding linksIn
-in-at links i h =
-    let l = numbers-length 0 (links .n) in
-    let e : getD (numbersFrom 0 (links .n)) i 0 ≡ i = numbers-at 0 (links .n) i 0 h ∙ omega arith in
-    map-at _ (numbersFrom 0 (links .n)) i 0 (0, 0) (omega arith) ∙ rw e
+in-at links i h = map-numbers-at _ (links .n) i (0, 0) h
 
 pub starts-length : (links : Links) → length (starts (linksIn links)) ≡ links .n
 starts-length links = length-map (linksIn links) (λ l. l .0) ∙ in-length links
@@ -41,7 +37,7 @@ in-drop links i h = drop-cons (linksIn links) i (0, 0) (omega (arith, in-length 
 
 pub in-added : (links : Links) (v w : ℕ) → links .n < length (links .starts) → links .n < length (links .ends)
     → linksIn (record { n = links .n + 1; starts = set (links .starts) (links .n) v; ends = set (links .ends) (links .n) w }) ≡ linksIn links ++ (v, w) ∷ []
-unfolding linksIn
+unfolding linksIn numbersFrom
 in-added links v w s e =
     let n = links .n in
     let at : ℕ → Link = λ i. (getD (set (links .starts) n v) i 0, getD (set (links .ends) n w) i 0) in
@@ -51,11 +47,13 @@ in-added links v w s e =
     rw (getD-set-other (links .starts) n i v 0 (λ q. omega arith), getD-set-other (links .ends) n i w 0 (λ q. omega arith)))
     in
     let back : at n ≡ (v, w) = rw (getD-set-same (links .starts) n v 0 s, getD-set-same (links .ends) n w 0 e) in
-    map-more at n ∙ rw (front, back)
+    map-numbers-append at n 1 ∙ rw (front, back)
 
-pub starts-drop : (links : Links) (i : ℕ) → i < links .n → drop i (starts (linksIn links)) ≡ getD (links .starts) i 0 ∷ drop (suc i) (starts (linksIn links))
+pub starts-drop : (links : Links) (i : ℕ) → i < links .n
+    → drop i (starts (linksIn links)) ≡ getD (links .starts) i 0 ∷ drop (suc i) (starts (linksIn links))
 starts-drop links i h =
-    drop-cons (starts (linksIn links)) i 0 (omega (arith, starts-length links)) ∙ ap (λ n. n ∷ drop (suc i) (starts (linksIn links))) (starts-at links i h)
+    drop-cons (starts (linksIn links)) i 0 (omega (arith, starts-length links)) ∙ ap (λ n. n ∷ drop (suc i) (starts (linksIn links)))
+    (starts-at links i h)
 
 pub ends-drop : (links : Links) (i : ℕ) → i < links .n → drop i (ends (linksIn links)) ≡ getD (links .ends) i 0 ∷ drop (suc i) (ends (linksIn links))
 ends-drop links i h =

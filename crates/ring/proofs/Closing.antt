@@ -11,12 +11,13 @@ use lib.Dec.{T}
 use lib.ListN.{length, length-map}
 use Rattle.lists.specs.Lists.{every, has, different}
 use Rattle.lists.proofs.Tests.{same-test}
-use Rattle.lists.proofs.Lists.{every-at, every-i, has-i, has-e}
-use Rattle.mesh.proofs.Lists.{different-head, different-tail}
+use Rattle.lists.proofs.Lists.{every-at, every-i}
+use Rattle.lists.proofs.Numbers.{has-i, has-e, different-head, different-tail, different-i, no-more}
+use Rattle.lists.proofs.Places.{in-cases}
+use Rattle.lists.proofs.Options.{some-is}
 use Rattle.ring.specs.Ring.{Link, next, circle, closes, starts}
-use Rattle.ring.proofs.Lists.{in-cases, different-i, no-more}
 use Rattle.ring.specs.Found.{ends}
-use Rattle.ring.proofs.Walking.{Walks, last, more, some-is, next-in, next-is, next-some, walk-walks, walks-walk, walks-short, walks-start, walks-here}
+use Rattle.ring.proofs.Walking.{Walks, last, more, next-in, next-is, next-some, walk-walks, walks-walk, walks-short, walks-start, walks-here}
 
 -- a point ends at most one link
 one-before : (links : List Link) {x y z : ℕ} → T (different (ends links)) → List·Memᴰ (x, z) links → List·Memᴰ (y, z) links → x ≡ y

@@ -12,7 +12,8 @@ use lib.ListN.{length, take, length-map}
 use lib.Seq.{length-take-le}
 use Rattle.lists.specs.Lists.{every, has, different}
 use Rattle.lists.proofs.Tests.{yes-is, no-is}
-use Rattle.lists.proofs.Lists.{every-at, every-i, has-i, has-e}
+use Rattle.lists.proofs.Lists.{every-at, every-i}
+use Rattle.lists.proofs.Numbers.{has-i, has-e, no-more, no-fewer}
 use Rattle.mesh.specs.Mesh.{rowsIn, keepsMeshRule}
 use Rattle.block.specs.declared.Answer.the-variants.{Done}
 use Rattle.block.specs.Layout.{Patch}
@@ -20,9 +21,9 @@ use Rattle.block.specs.Answers.{firstRefusal}
 use Rattle.ring.specs.declared.Links.{Links}
 use Rattle.ring.specs.declared.Ring.{Ring}
 use Rattle.ring.specs.declared.Circle.{Circle}
-use Rattle.ring.specs.Ring.{Link, link, circle, closes, starts, smallest, ringOf, Site, siteOf, minRing, maxRing, edgeMissing, linkOpen, manyCircles, lengthWrong, ringWith}
+use Rattle.ring.specs.Ring.{Link, link, circle, closes, starts, smallest, ringOf, Site}
+use Rattle.ring.specs.Ring.{siteOf, minRing, maxRing, edgeMissing, linkOpen, manyCircles, lengthWrong, ringWith}
 use Rattle.ring.specs.Found.{foundOf, ringTests, refusedWith, edgeIn, linksOf, ends, linksIn, walked, Table}
-use Rattle.ring.proofs.Lists.{no-more, no-fewer}
 use Rattle.ring.proofs.Arrays.{in-length}
 use Rattle.ring.proofs.Linking.{starts-different, ends-different}
 use Rattle.ring.proofs.Walking.{Walks, walk-walks, walks-different, walks-start, walks-from, next-is}
@@ -123,7 +124,8 @@ module _ (site : Site) (law : Ruled site) where
       walks = walk-walks (site .links) (smallest (starts (site .links))) (length (site .links)) (smallest (starts (site .links))) goes
 
       -- each end is a start, and the walk has left links out
-      pub found-many : every (has (starts (site .links))) (ends (site .links)) ≡ true → length points < length (site .links) → foundOf site ≡ refusedWith 12
+      pub found-many : every (has (starts (site .links))) (ends (site .links)) ≡ true → length points < length (site .links)
+          → foundOf site ≡ refusedWith 12
       unfolding manyCircles
       found-many q l =
           found-12 site held (open-is ∙ ap not q)
@@ -137,7 +139,8 @@ module _ (site : Site) (law : Ruled site) where
       module _ (whole : length (site .links) ≤ length points) where
         on-ring : {n : ℕ} → List·Memᴰ n (starts (site .links)) → List·Memᴰ n points
         on-ring m =
-            no-fewer points (starts (site .links)) (walks-different (site .links) _ walks) (λ n k. walks-start (site .links) _ walks k) (omega (arith, start-count)) m
+            no-fewer points (starts (site .links)) (walks-different (site .links) _ walks)
+            (λ n k. walks-start (site .links) _ walks k) (omega (arith, start-count)) m
 
         led : (n : ℕ) → List·Memᴰ n (ends (site .links)) → List·Memᴰ n (starts (site .links))
         led n m =
@@ -204,7 +207,8 @@ module _ {table : List ℕ} {n a b : ℕ} (gone : Gone table n a b) where
   pub gives-open : gone .walk .closed ≡ false → refusedWith 11 ≡ foundOf (edgeIn (rowsIn table n) a b)
   gives-open q = sym (found-open _ law some-here (circle-is ∙ rw q))
 
-  pub gives-11 : every (has (starts (linksIn (gone .gathered .links)))) (ends (linksIn (gone .gathered .links))) ≡ false → refusedWith 11 ≡ foundOf (edgeIn (rowsIn table n) a b)
+  pub gives-11 : every (has (starts (linksIn (gone .gathered .links)))) (ends (linksIn (gone .gathered .links))) ≡ false
+      → refusedWith 11 ≡ foundOf (edgeIn (rowsIn table n) a b)
   gives-11 q = sym (found-led _ law some-here (rw (links-are (gone .gathered)) at q))
 
   -- the walk came back
@@ -215,7 +219,8 @@ module _ {table : List ℕ} {n a b : ℕ} (gone : Gone table n a b) where
     goes : circle ((edgeIn (rowsIn table n) a b) .links) (smallest (starts ((edgeIn (rowsIn table n) a b) .links))) ≡ some (take (gone .walk .m) (gone .walk .v))
     goes = circle-is ∙ rw closed
 
-    pub gives-12 : every (has (starts (linksIn (gone .gathered .links)))) (ends (linksIn (gone .gathered .links))) ≡ true → gone .walk .m < gone .gathered .links .n
+    pub gives-12 : every (has (starts (linksIn (gone .gathered .links)))) (ends (linksIn (gone .gathered .links))) ≡ true
+        → gone .walk .m < gone .gathered .links .n
         → refusedWith 12 ≡ foundOf (edgeIn (rowsIn table n) a b)
     gives-12 q l = sym (found-many _ law some-here _ goes (rw (links-are (gone .gathered)) at q) (omega (arith, size, link-count (gone .gathered))))
 
@@ -228,7 +233,8 @@ module _ {table : List ℕ} {n a b : ℕ} (gone : Gone table n a b) where
       gives-short l = sym (found-wrong _ law some-here _ goes all-links (rw (size, lt-ltb (gone .walk .m) minRing l)))
 
       pub gives-long : minRing ≤ gone .walk .m → maxRing < gone .walk .m → refusedWith 13 ≡ foundOf (edgeIn (rowsIn table n) a b)
-      gives-long k l = sym (found-wrong _ law some-here _ goes all-links (rw (size, le-ltb (gone .walk .m) minRing k, lt-ltb maxRing (gone .walk .m) l)))
+      gives-long k l =
+          sym (found-wrong _ law some-here _ goes all-links (rw (size, le-ltb (gone .walk .m) minRing k, lt-ltb maxRing (gone .walk .m) l)))
 
       pub gives-ring : {ring : Ring} → minRing ≤ gone .walk .m → gone .walk .m ≤ maxRing → ring ≡ ringWith (take (gone .walk .m) (gone .walk .v))
           → record { answer = Done; ring = ring } ≡ foundOf (edgeIn (rowsIn table n) a b)

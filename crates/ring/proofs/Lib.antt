@@ -1,4 +1,3 @@
-pub mod Lists
 pub mod Arrays
 pub mod Tables
 pub mod Linking

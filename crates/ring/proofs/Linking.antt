@@ -2,29 +2,33 @@
 -- Idea: two rows with a link from v share the directed face (a,v,b), two with a link to w share (a,b,w).
 use Prim.Native.Nat.{ℕ, _≤_, _<_}
 use mathlib.Core.Bool.{Bool, true, false, cond}
-use mathlib.Core.List.{List, [], _∷_, map, List·Memᴰ, List·Memᴰ·head, List·Memᴰ·tail, List·Memᴰ·not-nil, Memᴰ·of-map}
+use mathlib.Core.List.{List, [], _∷_, map, List·Memᴰ, List·Memᴰ·head, List·Memᴰ·tail, Memᴰ·of-map}
 use mathlib.Core.Path.{_≡_, refl, sym, ap, _∙_, subst}
 use native.Mathlib.Omega.{arith}
 use borrow.Author.Tests.{eq-eqb, ne-eqb}
 use lib.Dec.{T}
 use Rattle.lists.specs.Lists.{those, different}
 use Rattle.lists.proofs.Tests.{and-l, and-r, and-i, is-yes}
-use Rattle.lists.proofs.Lists.{every-at, any-i, those-e, has-i, has-e}
+use Rattle.lists.proofs.Lists.{every-at, those-e}
+use Rattle.lists.proofs.Numbers.{has-i, different-i}
+use Rattle.lists.proofs.Places.{at-in}
+use Rattle.lists.proofs.Counts.{ind-yes, count-member}
+use Rattle.lists.proofs.Options.{pair-is}
 use Rattle.mesh.specs.declared.Row.{Row}
-use Rattle.mesh.specs.Mesh.{Face, numbers, holds, faces, uses, numbersFit, keepsMeshRule, Proper, noRow}
+use Rattle.mesh.specs.Mesh.{Face, numbers, holds, uses, numbersFit, keepsMeshRule, Proper, noRow}
 use Rattle.mesh.specs.Tetrahedra.{evenly, rearranged, arrangedFrom}
-use Rattle.mesh.proofs.Lists.{at-in, ind-yes, count-some}
-use Rattle.mesh.proofs.Faces.{Turned, as-is, once, twice, same-turned, turned-same, each-face, uses-e, uses-i}
+use Rattle.mesh.proofs.Faces.{as-is, once, twice, stay, FaceOf, no-p, no-q, no-r, no-s, same-faces, uses-face, face-uses}
 use Rattle.mesh.proofs.Counted.{hits, hits-cons}
 use Rattle.mesh.proofs.Rule.{fit-proper, keeps-fits, keeps-hits}
-use Rattle.mesh.proofs.Evenly.{spin, even-i, even-uses, even-holds, even-proper}
+use Rattle.mesh.proofs.Evenly.{spin, even-i, even-uses, holds-cases, even-holds, even-proper}
 use Rattle.mesh.proofs.Places.{even-trans, even-sym, arranged-from}
 use Rattle.ring.specs.Ring.{Link, holdsEdge, link, starts}
 use Rattle.ring.specs.Found.{linksOf, ends, following}
-use Rattle.ring.proofs.Lists.{pair-is, in-cases, different-i}
 
--- The two points of a link round a, b: below the count, and different from each other, from a and from b.
+-- The two points of a link round a, b, and the ends: below the count, the points different from each other, from a and from b.
 pub record LinkFits (count a b : ℕ) (l : Link) : Type 0 where
+  pub below-a : a < count
+  pub below-b : b < count
   pub below-v : l .0 < count
   pub below-w : l .1 < count
   pub v-w : l .0 ≡ l .1 → ⊥
@@ -33,10 +37,9 @@ pub record LinkFits (count a b : ℕ) (l : Link) : Type 0 where
   pub b-v : b ≡ l .0 → ⊥
   pub b-w : b ≡ l .1 → ⊥
 
--- a number of a row is one of the four
-pub holds-cases : {P : Type 0} (row : Row) (n : ℕ) → T (holds row n) → (n ≡ row .p → P) → (n ≡ row .q → P) → (n ≡ row .r → P) → (n ≡ row .s → P) → P
-holds-cases row n h p q r s =
-    in-cases (has-e (numbers row) n h) p λ m. in-cases m q λ m. in-cases m r λ m. in-cases m s λ m. absurd (List·Memᴰ·not-nil m)
+-- the row (a,b,v,w) of a link v to w
+abbrev rowWith : ℕ → ℕ → Link → Row
+rowWith a b l = record { p = a; q = b; r = l .0; s = l .1; region = 0 }
 
 module _ (a b : ℕ) (apart : a ≡ b → ⊥) where
   -- ---- one row
@@ -51,6 +54,8 @@ module _ (a b : ℕ) (apart : a ≡ b → ⊥) where
       let (e, p, q) = arranged row h in
       let k = even-proper count (arrangedFrom a b row) row e (fit-proper count row fit) in
       record {
+        below-a = rw p at (k .below-p);
+        below-b = rw q at (k .below-q);
         below-v = k .below-r;
         below-w = k .below-s;
         v-w = k .r-s;
@@ -60,23 +65,27 @@ module _ (a b : ℕ) (apart : a ≡ b → ⊥) where
         b-w = λ i. k .q-s (q ∙ i);
       }
 
-  -- the row of a link from v uses (a,v,b)
-  pub link-from : (row : Row) → T (holdsEdge a b row) → T (uses (a, (link a b row) .0, b) row)
-  unfolding link faces
-  link-from row h =
+  -- the row uses the four faces of (a,b,v,w)
+  pub link-uses : (row : Row) → T (holdsEdge a b row) → (f : Face) → FaceOf f (rowWith a b (link a b row)) → T (uses f row)
+  unfolding link
+  link-uses row h f k =
       let t = arrangedFrom a b row in
       let (e, p, q) = arranged row h in
-      let own = uses-i (a, t .r, b) (t .p, t .r, t .q) t (List·Memᴰ·tail (List·Memᴰ·tail (List·Memᴰ·tail (List·Memᴰ·head refl)))) (turned-same _ _ (as-is (sym p) refl (sym q))) in
-      subst T (even-uses t row e (a, t .r, b)) own
+      subst T (even-uses t row e f) (face-uses f t (same-faces f t (rowWith a b (t .r, t .s)) p q refl refl k))
 
-  -- the row of a link to w uses (a,b,w)
+  -- of those, a link from v has (a,v,b) and a link to w has (a,b,w) inside, and (b,v,w) and (a,w,v) outside
+
+  pub link-from : (row : Row) → T (holdsEdge a b row) → T (uses (a, (link a b row) .0, b) row)
+  link-from row h = link-uses row h _ (no-s stay)
+
   pub link-to : (row : Row) → T (holdsEdge a b row) → T (uses (a, b, (link a b row) .1) row)
-  unfolding link faces
-  link-to row h =
-      let t = arrangedFrom a b row in
-      let (e, p, q) = arranged row h in
-      let own = uses-i (a, b, t .s) (t .p, t .q, t .s) t (List·Memᴰ·tail (List·Memᴰ·tail (List·Memᴰ·head refl))) (turned-same _ _ (as-is (sym p) (sym q) refl)) in
-      subst T (even-uses t row e (a, b, t .s)) own
+  link-to row h = link-uses row h _ (no-r stay)
+
+  pub link-outer-a : (row : Row) → T (holdsEdge a b row) → T (uses (a, (link a b row) .1, (link a b row) .0) row)
+  link-outer-a row h = link-uses row h _ (no-q stay)
+
+  pub link-outer-b : (row : Row) → T (holdsEdge a b row) → T (uses (b, (link a b row) .0, (link a b row) .1) row)
+  link-outer-b row h = link-uses row h _ (no-p stay)
 
   -- ---- all rows: what is shown of a row that holds the edge is shown of each link
 
@@ -100,7 +109,7 @@ module _ (a b : ℕ) (apart : a ≡ b → ⊥) where
             let (m, o) = those-e (holdsEdge a b) rows m in
             let f = face (part (link a b row)) in
             let there : T (uses f other) = subst (λ n. T (uses (face n) other)) (ap part j ∙ i) (has-face other o) in
-            omega (arith, h f, hits-cons f row rows, ind-yes (uses f row) (has-face row k), count-some (uses f) rows (any-i (uses f) rows m there))
+            omega (arith, h f, hits-cons f row rows, ind-yes (uses f row) (has-face row k), count-member (uses f) rows m there)
 
         go : (t : Bool) → holdsEdge a b row ≡ t → T (different (map part (linksOf a b rows)))
             → T (different (map part (map (link a b) (cond t (row ∷ those (holdsEdge a b) rows) (those (holdsEdge a b) rows)))))
@@ -120,56 +129,38 @@ module _ (a b : ℕ) (apart : a ≡ b → ⊥) where
 -- a row whose numbers differ has one face from p to q, and one from q back to p
 module _ {count : ℕ} (t : Row) (k : Proper count t) where
   face-on : (w : ℕ) → T (uses (t .p, t .q, w) t) → w ≡ t .s
-  face-on w h =
-      let f : Face = (t .p, t .q, w) in
-      let (g, m, same) = uses-e f t h in
-      each-face (λ g. Turned f g → w ≡ t .s) t no-p no-q no-r no-s g m (same-turned f g same)
+  face-on w h = go (uses-face (t .p, t .q, w) t h)
     where
-      no-p : Turned (t .p, t .q, w) (t .q, t .r, t .s) → w ≡ t .s
-      no-p (as-is a b c) = absurd (k .p-q a)
-      no-p (once a b c) = absurd (k .p-r a)
-      no-p (twice a b c) = absurd (k .p-s a)
-
-      no-q : Turned (t .p, t .q, w) (t .p, t .s, t .r) → w ≡ t .s
-      no-q (as-is a b c) = absurd (k .q-s b)
-      no-q (once a b c) = absurd (k .p-s a)
-      no-q (twice a b c) = absurd (k .p-r a)
-
-      no-r : Turned (t .p, t .q, w) (t .p, t .q, t .s) → w ≡ t .s
-      no-r (as-is a b c) = c
-      no-r (once a b c) = absurd (k .p-q a)
-      no-r (twice a b c) = absurd (k .p-s a)
-
-      no-s : Turned (t .p, t .q, w) (t .p, t .r, t .q) → w ≡ t .s
-      no-s (as-is a b c) = absurd (k .q-r b)
-      no-s (once a b c) = absurd (k .p-r a)
-      no-s (twice a b c) = absurd (k .p-q a)
+      go : FaceOf (t .p, t .q, w) t → w ≡ t .s
+      go (no-p (as-is a b c)) = absurd (k .p-q a)
+      go (no-p (once a b c)) = absurd (k .p-r a)
+      go (no-p (twice a b c)) = absurd (k .p-s a)
+      go (no-q (as-is a b c)) = absurd (k .q-s b)
+      go (no-q (once a b c)) = absurd (k .p-s a)
+      go (no-q (twice a b c)) = absurd (k .p-r a)
+      go (no-r (as-is a b c)) = c
+      go (no-r (once a b c)) = absurd (k .p-q a)
+      go (no-r (twice a b c)) = absurd (k .p-s a)
+      go (no-s (as-is a b c)) = absurd (k .q-r b)
+      go (no-s (once a b c)) = absurd (k .p-r a)
+      go (no-s (twice a b c)) = absurd (k .p-q a)
 
   face-back : (v : ℕ) → T (uses (t .p, v, t .q) t) → v ≡ t .r
-  face-back v h =
-      let f : Face = (t .p, v, t .q) in
-      let (g, m, same) = uses-e f t h in
-      each-face (λ g. Turned f g → v ≡ t .r) t no-p no-q no-r no-s g m (same-turned f g same)
+  face-back v h = go (uses-face (t .p, v, t .q) t h)
     where
-      no-p : Turned (t .p, v, t .q) (t .q, t .r, t .s) → v ≡ t .r
-      no-p (as-is a b c) = absurd (k .p-q a)
-      no-p (once a b c) = absurd (k .p-r a)
-      no-p (twice a b c) = absurd (k .p-s a)
-
-      no-q : Turned (t .p, v, t .q) (t .p, t .s, t .r) → v ≡ t .r
-      no-q (as-is a b c) = absurd (k .q-r c)
-      no-q (once a b c) = absurd (k .p-s a)
-      no-q (twice a b c) = absurd (k .p-r a)
-
-      no-r : Turned (t .p, v, t .q) (t .p, t .q, t .s) → v ≡ t .r
-      no-r (as-is a b c) = absurd (k .q-s c)
-      no-r (once a b c) = absurd (k .p-q a)
-      no-r (twice a b c) = absurd (k .p-s a)
-
-      no-s : Turned (t .p, v, t .q) (t .p, t .r, t .q) → v ≡ t .r
-      no-s (as-is a b c) = b
-      no-s (once a b c) = absurd (k .p-r a)
-      no-s (twice a b c) = absurd (k .p-q a)
+      go : FaceOf (t .p, v, t .q) t → v ≡ t .r
+      go (no-p (as-is a b c)) = absurd (k .p-q a)
+      go (no-p (once a b c)) = absurd (k .p-r a)
+      go (no-p (twice a b c)) = absurd (k .p-s a)
+      go (no-q (as-is a b c)) = absurd (k .q-r c)
+      go (no-q (once a b c)) = absurd (k .p-s a)
+      go (no-q (twice a b c)) = absurd (k .p-r a)
+      go (no-r (as-is a b c)) = absurd (k .q-s c)
+      go (no-r (once a b c)) = absurd (k .p-q a)
+      go (no-r (twice a b c)) = absurd (k .p-s a)
+      go (no-s (as-is a b c)) = b
+      go (no-s (once a b c)) = absurd (k .p-r a)
+      go (no-s (twice a b c)) = absurd (k .p-q a)
 
 module _ {count : ℕ} (row t : Row) (proper : Proper count row) (even : T (rearranged t row)) where
   -- the link is what follows the two ends
@@ -197,7 +188,8 @@ link-following {count} row t b proper even d h =
     (λ i. rw (i, ne-eqb (t .s) (t .q) (λ j. k .q-s (sym j)), ne-eqb (t .s) (t .r) (λ j. k .r-s (sym j))) (link-is row (spin (spin t)) proper twice-spun))
 
 -- and the same of every even rearrangement of the row
-pub link-even : {count : ℕ} (row t : Row) (a b : ℕ) → (a ≡ b → ⊥) → Proper count row → T (rearranged t row) → T (holdsEdge a b row) → link a b t ≡ link a b row
+pub link-even : {count : ℕ} (row t : Row) (a b : ℕ) → (a ≡ b → ⊥) → Proper count row → T (rearranged t row)
+    → T (holdsEdge a b row) → link a b t ≡ link a b row
 link-even {count} row t a b apart proper even h =
     let u = arrangedFrom a b row in
     let (e, p, q) = arranged a b apart row h in

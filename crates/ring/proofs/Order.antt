@@ -10,21 +10,21 @@ use native.Mathlib.Omega.{arith}
 use lib.Dec.{T, eqb, ltb, eqb→eq}
 use lib.ListN.{length, length-map}
 use Rattle.lists.specs.Lists.{every, any, those, has, different}
-use Rattle.lists.proofs.Tests.{and-l, and-r, and-i, same-test}
-use Rattle.lists.proofs.Lists.{every-at, every-i, any-i, any-e, those-e, those-i}
+use Rattle.lists.proofs.Tests.{and-l, and-r, and-i, same-test, eq-test}
+use Rattle.lists.proofs.Lists.{every-at, every-i, any-e, those-e, those-i}
+use Rattle.lists.proofs.Counts.{count-member, some-counted}
+use Rattle.lists.proofs.Numbers.{no-more}
 use Rattle.mesh.specs.declared.Row.{Row}
 use Rattle.mesh.specs.Mesh.{holds, numbersFit, keepsMeshRule}
 use Rattle.mesh.specs.Tetrahedra.{rearranged, SameTetrahedra}
-use Rattle.mesh.proofs.Lists.{count-some, some-counted}
-use Rattle.mesh.proofs.Faces.{eq-test}
 use Rattle.mesh.proofs.Rule.{fit-proper, keeps-fits}
 use Rattle.mesh.proofs.Evenly.{even-holds}
 use Rattle.mesh.proofs.Places.{even-refl}
 use Rattle.mesh.proofs.Alike.{same-keeps}
 use Rattle.block.specs.Layout.{Patch}
-use Rattle.ring.specs.Ring.{Link, holdsEdge, link, next, walk, circle, closes, starts, smallest, ringOf, siteOf, numbersWrong, linkOpen, manyCircles}
+use Rattle.ring.specs.Ring.{Link, holdsEdge, link, next, walk, circle, closes}
+use Rattle.ring.specs.Ring.{starts, smallest, ringOf, siteOf, numbersWrong, linkOpen, manyCircles}
 use Rattle.ring.specs.Found.{linksOf, ringTests, foundOf}
-use Rattle.ring.proofs.Lists.{no-more}
 use Rattle.ring.proofs.Linking.{starts-different, link-even}
 use Rattle.ring.proofs.Walking.{back-or-on, stepped, next-in, next-is}
 use Rattle.ring.proofs.Rounding.{smallest-in, smallest-le, smallest-is}
@@ -53,7 +53,8 @@ numbers-swap count e f = rw swapped (go (ltb e count) (ltb f count))
     swapped : eqb f e ≡ eqb e f
     swapped = same-test (eqb f e) (eqb e f) (λ h. eq-test e f (sym (eqb→eq f e h))) (λ h. eq-test f e (sym (eqb→eq e f h)))
 
-    go : (x y : Bool) → not ((x && (y && true)) && (not (eqb e f || false) && (not false && true))) ≡ not ((y && (x && true)) && (not (eqb e f || false) && (not false && true)))
+    go : (x y : Bool)
+        → not ((x && (y && true)) && (not (eqb e f || false) && (not false && true))) ≡ not ((y && (x && true)) && (not (eqb e f || false) && (not false && true)))
     go true true = refl
     go true false = refl
     go false true = refl
@@ -131,9 +132,10 @@ module _ (ls ks : List Link) (once : T (different (starts ls))) (once' : T (diff
 -- ---- the order and the arrangement of the rows
 
 -- a row of one table stands in the other, evenly rearranged
-row-across : (rows others : List Row) (row : Row) → SameTetrahedra rows others → List·Memᴰ row rows → (u : Row) × List·Memᴰ u others × T (rearranged row u)
+row-across : (rows others : List Row) (row : Row) → SameTetrahedra rows others → List·Memᴰ row rows
+    → (u : Row) × List·Memᴰ u others × T (rearranged row u)
 row-across rows others row same m =
-    let one = count-some (rearranged row) rows (any-i (rearranged row) rows m (even-refl row)) in
+    let one = count-member (rearranged row) rows m (even-refl row) in
     any-e (rearranged row) others (some-counted (rearranged row) others (omega (arith, same row)))
 
 -- so its link is one of the other's

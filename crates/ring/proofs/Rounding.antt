@@ -11,11 +11,13 @@ use lib.Dec.{T}
 use lib.ListN.{length, getD, drop, length-map, drop-of-length-le}
 use lib.Seq.{drop-cons}
 use Rattle.lists.specs.Lists.{every, has, different}
-use Rattle.lists.proofs.Lists.{every-at, has-e}
-use Rattle.mesh.proofs.Lists.{in-at, different-places}
+use Rattle.lists.proofs.Lists.{every-at}
+use Rattle.lists.proofs.Numbers.{has-e, different-places, no-more}
+use Rattle.lists.proofs.Places.{in-at, in-cases, in-length}
+use Rattle.lists.proofs.Options.{pair-is, some-is}
 use Rattle.ring.specs.Ring.{Link, next, circle, closes, starts, smallest, ringOf}
-use Rattle.ring.proofs.Lists.{pair-is, in-cases, in-length, no-more}
-use Rattle.ring.proofs.Walking.{Walks, last, more, walks-one, after, some-is, walk-walks, walks-different, walks-start, walks-first, walks-after, next-in, next-is}
+use Rattle.ring.proofs.Walking.{Walks, last, more, walks-one, after, walk-walks}
+use Rattle.ring.proofs.Walking.{walks-different, walks-start, walks-first, walks-after, next-in, next-is}
 
 -- ---- the smallest of some numbers
 
@@ -109,7 +111,8 @@ module _ (links : List Link) (some-link : 0 < length links) (close : T (every (c
 module _ (links : List Link) (single : T (different (starts links))) {ring : List ℕ} (round : GoesRound links ring) where
   from-place : (k i : ℕ) → i + suc k ≡ length ring → Walks links (smallest (starts links)) (getD ring i 0) (drop i ring)
   from-place zero i e =
-      let split : drop i ring ≡ getD ring i 0 ∷ [] = drop-cons ring i 0 (omega arith) ∙ ap (λ ps. getD ring i 0 ∷ ps) (drop-of-length-le ring {i = suc i} (omega arith)) in
+      let split : drop i ring ≡ getD ring i 0 ∷ [] =
+      drop-cons ring i 0 (omega arith) ∙ ap (λ ps. getD ring i 0 ∷ ps) (drop-of-length-le ring {i = suc i} (omega arith)) in
       let end : after ring i ≡ smallest (starts links) = rw (eq-eqb (suc i) (length ring) (omega arith)) (round .least) in
       rw split (last (next-is links single (round .linked i (omega arith)) ∙ ap some end))
   from-place (suc k) i e =

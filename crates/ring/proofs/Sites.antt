@@ -1,6 +1,6 @@
 -- Law 10 of an edge in its patch: answers 9 to 12 not given, the removed rows' links are those of the ring, and its points fit.
-use Prim.Native.Nat.{ℕ, zero, suc, _<_, min, max}
-use mathlib.Core.Bool.{Bool, true, false, cond, _&&_, _||_}
+use Prim.Native.Nat.{ℕ, _<_, min, max}
+use mathlib.Core.Bool.{Bool, true, false, _&&_, _||_}
 use mathlib.Core.List.{List, [], _∷_, List·Memᴰ, List·Memᴰ·head, List·Memᴰ·tail, Memᴰ·of-map}
 use mathlib.Core.Path.{_≡_, refl, sym, _∙_}
 use native.Mathlib.Omega.{arith}
@@ -10,11 +10,12 @@ use lib.ListN.{length, length-map}
 use Rattle.lists.specs.Lists.{every, has, different}
 use Rattle.lists.proofs.Tests.{and-l, and-r, is-yes}
 use Rattle.lists.proofs.Lists.{every-at}
+use Rattle.lists.proofs.Numbers.{different-head}
 use Rattle.mesh.specs.declared.Row.{Row}
 use Rattle.mesh.specs.Mesh.{keepsMeshRule}
 use Rattle.block.specs.Layout.{Patch}
-use Rattle.block.specs.Answers.{firstRefusal, answerOf, numberOf}
-use Rattle.mesh.proofs.Lists.{different-head}
+use Rattle.block.specs.Answers.{firstRefusal, numberOf}
+use Rattle.block.proofs.Refusals.{passed, number-of}
 use Rattle.ring.specs.Ring.{Link, link, closes, starts, minRing, maxRing, ringWith}
 use Rattle.ring.specs.Ring.{Site, siteOf, m, numbersWrong, edgeMissing, linkOpen, manyCircles, lengthWrong, edgeTests}
 use Rattle.ring.specs.Found.{ringTests, foundOf, edgeIn}
@@ -28,18 +29,15 @@ pub record OneCircle (site : Site) : Type 0 where
   pub closed : linkOpen site ≡ false
   pub whole : manyCircles site ≡ false
 
-no-refusal : (n : ℕ) (b : Bool) (rest : ℕ) → cond b (suc n) rest ≡ 0 → (b ≡ false) × (rest ≡ 0)
-no-refusal n true rest e = absurd (omega arith)
-no-refusal n false rest e = (refl, e)
-
 -- so it is where answers 9 to 12 are not given
-pub tests-passed : (site : Site) (e f : ℕ) → firstRefusal (edgeTests site e f) ≡ 0 → (numbersWrong (length (site .points)) (e ∷ f ∷ []) ≡ false) × OneCircle site
-unfolding firstRefusal edgeTests
+pub tests-passed : (site : Site) (e f : ℕ) → firstRefusal (edgeTests site e f) ≡ 0
+    → (numbersWrong (length (site .points)) (e ∷ f ∷ []) ≡ false) × OneCircle site
+unfolding edgeTests
 tests-passed site e f q =
-    let (p9, q) = no-refusal 8 _ _ q in
-    let (p10, q) = no-refusal 9 _ _ q in
-    let (p11, q) = no-refusal 10 _ _ q in
-    let (p12, q) = no-refusal 11 _ _ q in
+    let (p9, q) = passed 8 _ _ q in
+    let (p10, q) = passed 9 _ _ q in
+    let (p11, q) = passed 10 _ _ q in
+    let (p12, q) = passed 11 _ _ q in
     (p9, record { held = p10; closed = p11; whole = p12 })
 
 -- answer 9 not given: both numbers below the count, and different
@@ -80,7 +78,8 @@ module _ (count : ℕ) (patch : Patch) (e f : ℕ) (apart : e ≡ f → ⊥) (ru
   site-goes-round =
       let site = siteOf patch e f in
       let t = every (has (site .ring)) (starts (site .links)) in
-      goes-round (site .links) some-link close (starts-different (min e f) (max e f) ends-apart count (patch .rows) rule) (is-yes t (not-false t (one .whole)))
+      goes-round (site .links) some-link close (starts-different (min e f) (max e f) ends-apart count (patch .rows) rule)
+      (is-yes t (not-false t (one .whole)))
 
   -- m is the number of removed rows
   pub site-size : m (siteOf patch e f) ≡ length ((siteOf patch e f) .removed)
@@ -112,21 +111,18 @@ found-rows patch e f = refl
 -- its number is that of the first test that is true
 pub found-number : (site : Site) → numberOf ((foundOf site) .answer) ≡ firstRefusal (ringTests site)
 unfolding foundOf
-found-number site = go (firstRefusal (ringTests site))
-  where
-    go : (n : ℕ) → numberOf (answerOf n) ≡ n
-    go zero = refl
-    go (suc n) = refl
+found-number site = number-of (firstRefusal (ringTests site))
 
 -- with answer 0 the links make one ring of 3 to 10 points, and it is given
-pub found-done : (site : Site) → firstRefusal (ringTests site) ≡ 0 → OneCircle site × (lengthWrong site ≡ false) × ((foundOf site) .ring ≡ ringWith (site .ring))
-unfolding firstRefusal ringTests foundOf
+pub found-done : (site : Site) → firstRefusal (ringTests site) ≡ 0
+    → OneCircle site × (lengthWrong site ≡ false) × ((foundOf site) .ring ≡ ringWith (site .ring))
+unfolding ringTests foundOf
 found-done site q =
-    let (p10, q11) = no-refusal 9 _ _ q in
-    let (p11, q12) = no-refusal 10 _ _ q11 in
-    let (p12, q13) = no-refusal 11 _ _ q12 in
-    let (p13, rest) = no-refusal 12 _ _ q13 in
-    (record { held = p10; closed = p11; whole = p12 }, p13, rw (p10, p11, p12, p13))
+    let (p10, q11) = passed 9 _ _ q in
+    let (p11, q12) = passed 10 _ _ q11 in
+    let (p12, q13) = passed 11 _ _ q12 in
+    let (p13, rest) = passed 12 _ _ q13 in
+    (record { held = p10; closed = p11; whole = p12 }, p13, rw q)
 
 -- a ring of a wrong length is no ring of three, so the 3-2 flip refuses it with the same number
 pub wrong-not-three : (site : Site) → lengthWrong site ≡ true → eqb (m site) minRing ≡ false

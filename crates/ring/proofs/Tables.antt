@@ -1,12 +1,12 @@
 -- Tables of rows, one row more at a time: their links, and the fit of their numbers.
 use Prim.Native.Nat.{ℕ, _+_, _<_}
 use mathlib.Core.Bool.{true, false}
-use mathlib.Core.List.{List, [], _∷_, _++_, map, map-append, append-nil}
+use mathlib.Core.List.{List, [], _∷_, _++_, map, map-append}
 use mathlib.Core.Path.{_≡_, ap, _∙_}
 use native.Mathlib.Numerals.{add-one}
 use lib.Dec.{T}
 use Rattle.lists.specs.Lists.{those}
-use Rattle.lists.proofs.Lists.{every-at, those-append}
+use Rattle.lists.proofs.Lists.{every-at, those-yes, those-no}
 use Rattle.mesh.specs.declared.Row.{Row}
 use Rattle.mesh.specs.Mesh.{rowIn, rowsIn, numbersFit, keepsMeshRule}
 use Rattle.mesh.proofs.Tables.{rows-more, row-among}
@@ -21,17 +21,11 @@ row-fits count table n i rule h = every-at (numbersFit count) (rowsIn table n) (
 module _ (a b : ℕ) (rows : List Row) (row : Row) where
   -- a row that holds both ends gives one link more
   links-more : holdsEdge a b row ≡ true → linksOf a b (rows ++ row ∷ []) ≡ linksOf a b rows ++ link a b row ∷ []
-  unfolding those
-  links-more e =
-      let one : those (holdsEdge a b) (rows ++ row ∷ []) ≡ those (holdsEdge a b) rows ++ row ∷ [] = rw (those-append (holdsEdge a b) rows (row ∷ []), e) in
-      ap (map (link a b)) one ∙ map-append (link a b) (those (holdsEdge a b) rows) (row ∷ [])
+  links-more e = ap (map (link a b)) (those-yes (holdsEdge a b) rows row e) ∙ map-append (link a b) (those (holdsEdge a b) rows) (row ∷ [])
 
   -- any other gives none
   links-same : holdsEdge a b row ≡ false → linksOf a b (rows ++ row ∷ []) ≡ linksOf a b rows
-  unfolding those
-  links-same e =
-      let none : those (holdsEdge a b) (rows ++ row ∷ []) ≡ those (holdsEdge a b) rows = rw (those-append (holdsEdge a b) rows (row ∷ []), e) (append-nil _) in
-      ap (map (link a b)) none
+  links-same e = ap (map (link a b)) (those-no (holdsEdge a b) rows row e)
 
 -- one row more of a table
 module _ (a b : ℕ) (table : List ℕ) (i : ℕ) {links : List Link} {row : Row} (so-far : links ≡ linksOf a b (rowsIn table i)) (is-row : row ≡ rowIn table i) where

@@ -10,21 +10,16 @@ use borrow.Author.Tests.{eqb-true, eqb-false, eq-eqb, ne-eqb}
 use lib.Dec.{T, eqb}
 use lib.ListN.{length, getD, length-map}
 use Rattle.lists.specs.Lists.{different}
-use Rattle.mesh.proofs.Lists.{different-head, different-tail}
+use Rattle.lists.proofs.Numbers.{different-head, different-tail, different-i, no-more}
+use Rattle.lists.proofs.Options.{some-is, none-not, pair-is}
+use Rattle.lists.proofs.Places.{in-cases}
 use Rattle.ring.specs.Ring.{Link, next, walk, starts}
-use Rattle.ring.proofs.Lists.{pair-is, in-cases, different-i, no-more}
 
 -- The links lead from a point along these points, and from the last of them to the start, which is met before nowhere but at the first.
 pub data Walks (links : List Link) (start : ℕ) : ℕ → List ℕ → Type 0 where
   last : {here : ℕ} → next links here ≡ some start → Walks links start here (here ∷ [])
   more : {here there : ℕ} {points : List ℕ} → next links here ≡ some there → (there ≡ start → ⊥) → Walks links start there points
       → Walks links start here (here ∷ points)
-
-pub some-is : {A : Type 0} {x y : A} → some x ≡ some y → x ≡ y
-some-is e = cc
-
-pub none-not : {A : Type 0} {x : A} → _≡_ {A = Option A} none (some x) → ⊥
-none-not e = let z : _≡_ {A = ℕ} 0 1 = cc in omega arith
 
 -- ---- one step
 
@@ -34,7 +29,8 @@ unfolding next
 next-in [] v e = absurd (none-not e)
 next-in (l ∷ ls) v {w} e = go (eqb (l .0) v) refl (next-in ls v) e
   where
-    go : (b : Bool) → eqb (l .0) v ≡ b → (next ls v ≡ some w → List·Memᴰ (v, w) ls) → cond b (some (l .1)) (next ls v) ≡ some w → List·Memᴰ (v, w) (l ∷ ls)
+    go : (b : Bool) → eqb (l .0) v ≡ b → (next ls v ≡ some w → List·Memᴰ (v, w) ls) → cond b (some (l .1)) (next ls v) ≡ some w
+        → List·Memᴰ (v, w) (l ∷ ls)
     go true q f e =
         let a = eqb-true (l .0) v q in
         let b = some-is e in
@@ -59,7 +55,8 @@ unfolding next
 next-some [] m = absurd (List·Memᴰ·not-nil m)
 next-some (l ∷ ls) {v} m = go (eqb (l .0) v) refl (λ k. next-some ls k)
   where
-    go : (b : Bool) → eqb (l .0) v ≡ b → (List·Memᴰ v (starts ls) → (w : ℕ) × (next ls v ≡ some w)) → (w : ℕ) × (cond b (some (l .1)) (next ls v) ≡ some w)
+    go : (b : Bool) → eqb (l .0) v ≡ b → (List·Memᴰ v (starts ls) → (w : ℕ) × (next ls v ≡ some w))
+        → (w : ℕ) × (cond b (some (l .1)) (next ls v) ≡ some w)
     go true q f = (l .1, refl)
     go false q f = f (in-cases m (λ e. absurd (eqb-false (l .0) v q (sym e))) (λ k. k))
 
@@ -183,7 +180,8 @@ module _ (links : List Link) (start : ℕ) where
   walks-around zero (more e d w) l = absurd (omega (arith, (walks-first w) .0))
   walks-around (suc i) (more e d w) l = walks-around i w (omega arith)
 
-  pub walks-after : {points : List ℕ} (i : ℕ) → Walks links start start points → i < length points → next links (getD points i 0) ≡ some (after points i)
+  pub walks-after : {points : List ℕ} (i : ℕ) → Walks links start start points → i < length points
+      → next links (getD points i 0) ≡ some (after points i)
   walks-after {points} i w l = go (eqb (suc i) (length points)) refl
     where
       go : (b : Bool) → eqb (suc i) (length points) ≡ b → next links (getD points i 0) ≡ some (cond b (getD points 0 0) (getD points (suc i) 0))

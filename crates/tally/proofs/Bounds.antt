@@ -2,13 +2,15 @@
 -- badness of 61 rows fits in 64 bits.
 use Prim.Native.Nat.{ℕ, zero, suc, _≤_, _<_, _^_}
 use mathlib.Core.Bool.{not}
-use mathlib.Core.List.{List, [], _∷_, flatMap, List·Memᴰ, List·Memᴰ·head, List·Memᴰ·tail}
-use mathlib.Core.Path.{refl, sym, subst}
+use mathlib.Core.List.{List, [], _∷_, flatMap, List·Memᴰ, List·Memᴰ·head, List·Memᴰ·tail, Memᴰ·of-map}
+use mathlib.Core.Path.{refl, subst}
 use native.Mathlib.Nat.{mul-le-mul-right}
 use native.Mathlib.Omega.{arith}
 use lib.Dec.{T, ltb, nltb→le}
 use lib.ListN.{length, length-map}
 use Rattle.lists.specs.Lists.{count}
+use Rattle.lists.proofs.Lists.{none-passes}
+use Rattle.lists.proofs.Counts.{count-most}
 use Rattle.measure.specs.declared.Point.{Point}
 use Rattle.measure.specs.Measure.{maxCoordinate, pointBytes, isUpright}
 use Rattle.measure.specs.Marks.{totalBadness}
@@ -18,11 +20,9 @@ use Rattle.measure.proofs.Octaves as Octaves
 use Rattle.mesh.specs.declared.Row.{Row}
 use Rattle.mesh.specs.Keys.{mostRows}
 use Rattle.mesh.specs.Mesh.{place, rowQuality}
-use Rattle.mesh.proofs.Lists.{map-in}
 use Rattle.block.specs.Layout.{Patch}
 use Rattle.block.specs.Answers.{coordinateOver}
 use Rattle.tally.specs.Summing.{qualities}
-use Rattle.tally.proofs.Lists.{none-passes, count-most}
 
 -- every row's quality is proper
 pub row-proper : (points : List Point) (row : Row) → Proper (rowQuality points row)
@@ -55,8 +55,8 @@ module _ (patch : Patch) (grid : T (not (coordinateOver patch))) where
 
   pub qualities-rows : Octaves.Rows partLimit (qualities patch)
   qualities-rows = record {
-    proper = λ q m. let k = map-in (rowQuality (patch .points)) (patch .rows) m in subst Proper (sym (k .2)) (row-proper (patch .points) (k .0));
-    den-small = λ q m. let k = map-in (rowQuality (patch .points)) (patch .rows) m in subst (λ r. r .den ≤ partLimit) (sym (k .2)) (row-den-most (k .0));
+    proper = λ q m. let k = Memᴰ·of-map (rowQuality (patch .points)) (patch .rows) m in subst Proper (k .2) (row-proper (patch .points) (k .0));
+    den-small = λ q m. let k = Memᴰ·of-map (rowQuality (patch .points)) (patch .rows) m in subst (λ r. r .den ≤ partLimit) (k .2) (row-den-most (k .0));
   }
 
   -- the sum of badness of 61 rows fits in 64 bits

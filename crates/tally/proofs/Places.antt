@@ -2,7 +2,7 @@
 -- are measured have their places there.
 use Prim.Native.Nat.{ℕ, suc, _*_, _≤_, _<_}
 use mathlib.Core.Bool.{Bool, true, false, not}
-use mathlib.Core.List.{List, [], _∷_, _++_, map}
+use mathlib.Core.List.{List, [], _∷_, _++_, map, map-append}
 use mathlib.Core.Path.{_≡_, sym, ap, _∙_}
 use lib.Dec.{T}
 use lib.ListN.{length}
@@ -15,7 +15,6 @@ use Rattle.measure.proofs.Points.{points-length, points-at}
 use Rattle.mesh.specs.declared.Row.{Row}
 use Rattle.mesh.specs.Keys.{mostRows}
 use Rattle.mesh.specs.Mesh.{rowSize, rowIn, rowsIn, numbersFit, noPoint, place, rowD, rowQuality}
-use Rattle.mesh.proofs.Lists.{map-append}
 use Rattle.mesh.proofs.Tables.{row-among, rows-more}
 use Rattle.mesh.proofs.Rule.{fit-proper}
 use Rattle.block.specs.Answers.{coordinateOver, numberWrong}

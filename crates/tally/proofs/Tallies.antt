@@ -7,6 +7,7 @@ use native.Mathlib.Nat.{add-zero}
 use native.Mathlib.Omega.{arith}
 use lib.ListN.{length, length-map}
 use Rattle.lists.specs.Lists.{count, those}
+use Rattle.lists.proofs.Counts.{count-append, count-most}
 use Rattle.measure.specs.declared.Kind.{Kind}
 use Rattle.measure.specs.declared.Kind.the-variants.{Upright, Flat, Inverted}
 use Rattle.measure.specs.declared.Quality.{Quality}
@@ -16,7 +17,6 @@ use Rattle.measure.specs.Marks.{badness, added, totalBadness, octave}
 use Rattle.measure.proofs.Proper.{of-kind}
 use Rattle.mesh.specs.declared.Row.{Row}
 use Rattle.mesh.specs.Mesh.{rowIn, rowsIn, rowQuality}
-use Rattle.mesh.proofs.Lists.{count-append}
 use Rattle.mesh.proofs.Tables.{rows-length}
 use Rattle.block.specs.Layout.{Patch}
 use Rattle.block.specs.Answers.{coordinateOver}
@@ -25,7 +25,6 @@ use Rattle.tally.specs.declared.summing.Tally.{Tally}
 use Rattle.tally.specs.Measured.{Measured, patchIn}
 use Rattle.tally.specs.Kept.{countWith, tallyWith, tallied, Room}
 use Rattle.tally.specs.Summing.{qualities, summaryOf}
-use Rattle.tally.proofs.Lists.{count-most}
 use Rattle.tally.proofs.Places.{qualities-more}
 use Rattle.tally.proofs.Bounds.{total-fits}
 use Rattle.tally.proofs.Worsts.{met, worst-more, score-of}

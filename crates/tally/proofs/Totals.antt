@@ -4,9 +4,10 @@ use mathlib.Core.List.{List, [], _∷_, _++_}
 use mathlib.Core.Path.{_≡_, sym, ap, _∙_}
 use native.Mathlib.Nat.{le-trans, mul-le-mul-right}
 use native.Mathlib.Omega.{arith}
-use lib.IntN.{ℤ, pos, natAbs, _+ℤ_, +ℤ-assoc, +ℤ-comm}
+use lib.IntN.{ℤ, natAbs, _+ℤ_, +ℤ-idr}
 use mir.Syntax.{w64}
 use mir.Val.{SFits}
+use Rattle.lists.proofs.Sums.{sum-append}
 use Rattle.algebra.proofs.Size.{size-add, fits-size}
 use Rattle.measure.specs.declared.Point.{Point}
 use Rattle.measure.specs.Limits.{volumeLimit}
@@ -17,10 +18,8 @@ use Rattle.mesh.proofs.Tables.{rows-more}
 
 total-more : (points : List Point) (rows : List Row) (row : Row) → totalD points (rows ++ row ∷ []) ≡ totalD points rows +ℤ rowD points row
 unfolding totalD
-total-more points [] row = +ℤ-comm (rowD points row) (pos 0)
-total-more points (first ∷ rows) row =
-    ap (λ t. rowD points first +ℤ t) (total-more points rows row)
-    ∙ sym (+ℤ-assoc (rowD points first) (totalD points rows) (rowD points row))
+total-more points rows row =
+    sum-append (rowD points) rows (row ∷ []) ∙ ap (λ d. totalD points rows +ℤ d) (+ℤ-idr (rowD points row))
 
 -- the total of the first i rows, with row i
 pub row-total :

@@ -1,22 +1,21 @@
 -- What the code keeps of the worst is the worst of the qualities met, or the mark of none.
 use Prim.Native.Nat.{ℕ, suc}
-use mathlib.Core.Bool.{Bool, true, false, cond}
-use mathlib.Core.List.{List, [], _∷_, _++_, foldl-append, map}
+use mathlib.Core.Bool.{Bool, true, false}
+use mathlib.Core.List.{List, [], _∷_, _++_, foldl-append, map, map-append}
 use mathlib.Core.Option.{Option, none, some, Option·getD}
 use mathlib.Core.Path.{_≡_, refl, sym, ap, _∙_}
 use Rattle.lists.specs.Lists.{those}
+use Rattle.lists.proofs.Lists.{those-yes, those-no}
 use Rattle.measure.specs.declared.Quality.{Quality}
 use Rattle.measure.specs.Measure.{worst, worseOf, zeroQuality}
 use Rattle.measure.specs.declared.WorstScore.the-variants as Marked
 use Rattle.measure.specs.Marks.{score, worstScore}
 use Rattle.mesh.specs.declared.Row.{Row}
 use Rattle.mesh.specs.Mesh.{rowIn, rowsIn}
-use Rattle.mesh.proofs.Lists.{map-append}
 use Rattle.mesh.proofs.Tables.{rows-more}
 use Rattle.tally.specs.declared.worst.Met.{Met}
 use Rattle.tally.specs.declared.worst.Met.the-variants.{Nothing, Worst}
 use Rattle.tally.specs.Kept.{worstWith, orZero, scoreMet}
-use Rattle.tally.proofs.Lists.{those-more}
 use Rattle.tally.proofs.Places.{qualities-more}
 
 -- a worst quality, or none, as the code keeps it
@@ -49,10 +48,6 @@ module _ (f : Row → Quality) (table : List ℕ) (i : ℕ) where
   row-met = sym (worst-more (map f (rowsIn table i)) (f (rowIn table i))) ∙ ap (λ qs. met (worst qs)) (sym (qualities-more f table i))
 
   module _ (p : Row → Bool) where
-    -- the rows that pass among the first i + 1
-    passing : those p (rowsIn table (suc i)) ≡ cond (p (rowIn table i)) (those p (rowsIn table i) ++ rowIn table i ∷ []) (those p (rowsIn table i))
-    passing = ap (those p) (rows-more table i) ∙ those-more p (rowsIn table i) (rowIn table i)
-
     -- row i passes, so it counts
     pub passing-met : p (rowIn table i) ≡ true
         → worstWith (met (worst (map f (those p (rowsIn table i))))) (f (rowIn table i)) ≡ met (worst (map f (those p (rowsIn table (suc i)))))
@@ -60,8 +55,9 @@ module _ (f : Row → Quality) (table : List ℕ) (i : ℕ) where
         let front = those p (rowsIn table i) in
         sym (worst-more (map f front) (f (rowIn table i)))
         ∙ ap (λ qs. met (worst qs)) (sym (map-append f front (rowIn table i ∷ [])))
-        ∙ ap (λ rows. met (worst (map f rows))) (sym (rw e at passing))
+        ∙ ap (λ rows. met (worst (map f rows))) (sym (ap (those p) (rows-more table i) ∙ those-yes p (rowsIn table i) (rowIn table i) e))
 
     -- row i does not pass, so nothing changes
     pub other-met : p (rowIn table i) ≡ false → met (worst (map f (those p (rowsIn table i)))) ≡ met (worst (map f (those p (rowsIn table (suc i)))))
-    other-met e = ap (λ rows. met (worst (map f rows))) (sym (rw e at passing))
+    other-met e =
+        ap (λ rows. met (worst (map f rows))) (sym (ap (those p) (rows-more table i) ∙ those-no p (rowsIn table i) (rowIn table i) e))

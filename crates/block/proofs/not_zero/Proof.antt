@@ -1,13 +1,15 @@
 -- The loop's invariant: what is left of the slice decides.
 use Prim.Native.Nat.{ℕ, _-_, _≤_}
-use mathlib.Core.Path.{_≡_, refl, sym, _∙_}
+use mathlib.Core.Path.{_≡_, refl, sym, ap, _∙_}
 use mathlib.Core.Bool.{Bool, true, false, not}
+use native.Mathlib.Numerals.{add-one}
 use native.Mathlib.Omega.{arith}
 use borrow.Author.Tests.{eq-eqb, ne-eqb}
 use lib.Dec.{eqb}
-use lib.ListN.{length, drop}
+use lib.ListN.{length, drop, drop-of-length-le}
+use lib.Seq.{drop-cons}
 use Rattle.lists.specs.Lists.{any}
-use Rattle.block.proofs.Lists.{any-here, any-later, any-end}
+use Rattle.lists.proofs.Lists.{any-here, any-later}
 use Rattle.block.proofs.not_zero.Statement.{statement}
 use Rattle.block.proofs.not_zero.Tie as tie
 
@@ -36,7 +38,7 @@ returns : tie.Need-returns Inv-loop μ-loop
 returns c =
     let l = c .before .before .before .loop in
     let s = c .before .before .before .before .args .part .now in
-    sym (any-here notNought s 0 (l .i) (omega arith) (ne (c .if1 .taken))) ∙ l .inv .2
+    sym (any-here notNought (drop-cons s (l .i) 0 (omega arith)) (ne (c .if1 .taken))) ∙ l .inv .2
 
 add-i : tie.Need-add-i Inv-loop μ-loop
 add-i c = omega arith
@@ -48,12 +50,13 @@ loop-again : tie.Need-loop-again Inv-loop μ-loop
 loop-again c =
     let l = c .before .before .before .loop in
     let s = c .before .before .before .before .args .part .now in
-    (omega arith, refl, sym (any-later notNought s 0 (l .i) (omega arith) (eq (c .if1 .left))) ∙ l .inv .2)
+    (omega arith, refl, rw add-one (sym (any-later notNought (drop-cons s (l .i) 0 (omega arith)) (eq (c .if1 .left))) ∙ l .inv .2))
 
 returns-2 : tie.Need-returns-2 Inv-loop μ-loop
+unfolding any
 returns-2 c =
     let l = c .before .loop in
-    sym (any-end notNought (c .before .before .args .part .now) 0 (l .i) (omega arith)) ∙ l .inv .2
+    sym (ap (any notNought) (drop-of-length-le (c .before .before .args .part .now) {i = l .i} (omega arith))) ∙ l .inv .2
 
 pub not-zero-spec : {M : Type 1} → statement M
 not-zero-spec =

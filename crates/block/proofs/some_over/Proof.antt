@@ -1,13 +1,15 @@
 -- The loop's invariant: what is left of the slice decides.
 use Prim.Native.Nat.{_-_, _≤_}
-use mathlib.Core.Path.{_≡_, refl, sym, _∙_}
+use mathlib.Core.Path.{_≡_, refl, sym, ap, _∙_}
+use native.Mathlib.Numerals.{add-one}
 use native.Mathlib.Omega.{arith}
 use borrow.Author.Tests.{lt-ltb, le-ltb}
 use lib.Dec.{ltb}
-use lib.ListN.{length, drop}
+use lib.ListN.{length, drop, drop-of-length-le}
+use lib.Seq.{drop-cons}
 use Rattle.lists.specs.Lists.{any}
+use Rattle.lists.proofs.Lists.{any-here, any-later}
 use Rattle.measure.specs.Measure.{maxCoordinate}
-use Rattle.block.proofs.Lists.{any-here, any-later, any-end}
 use Rattle.block.proofs.some_over.Statement.{statement}
 use Rattle.block.proofs.some_over.Tie as tie
 
@@ -27,7 +29,7 @@ returns : tie.Need-returns Inv-loop μ-loop
 returns c =
     let l = c .before .before .before .loop in
     let s = c .before .before .before .before .args .part .now in
-    sym (any-here (ltb maxCoordinate) s 0 (l .i) (omega arith) (lt-ltb maxCoordinate _ (c .if1 .taken))) ∙ l .inv .2
+    sym (any-here (ltb maxCoordinate) (drop-cons s (l .i) 0 (omega arith)) (lt-ltb maxCoordinate _ (c .if1 .taken))) ∙ l .inv .2
 
 add-i : tie.Need-add-i Inv-loop μ-loop
 add-i c = omega arith
@@ -39,12 +41,14 @@ loop-again : tie.Need-loop-again Inv-loop μ-loop
 loop-again c =
     let l = c .before .before .before .loop in
     let s = c .before .before .before .before .args .part .now in
-    (omega arith, refl, sym (any-later (ltb maxCoordinate) s 0 (l .i) (omega arith) (le-ltb maxCoordinate _ (c .if1 .left))) ∙ l .inv .2)
+    let later = any-later (ltb maxCoordinate) (drop-cons s (l .i) 0 (omega arith)) (le-ltb maxCoordinate _ (c .if1 .left)) in
+    (omega arith, refl, rw add-one (sym later ∙ l .inv .2))
 
 returns-2 : tie.Need-returns-2 Inv-loop μ-loop
+unfolding any
 returns-2 c =
     let l = c .before .loop in
-    sym (any-end (ltb maxCoordinate) (c .before .before .args .part .now) 0 (l .i) (omega arith)) ∙ l .inv .2
+    sym (ap (any (ltb maxCoordinate)) (drop-of-length-le (c .before .before .args .part .now) {i = l .i} (omega arith))) ∙ l .inv .2
 
 pub some-over-spec : {M : Type 1} → statement M
 some-over-spec =

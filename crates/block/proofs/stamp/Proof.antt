@@ -33,7 +33,8 @@ returns c =
     let one = c .before .before .before .before .before .before in
     let summed = one .before .before in
     let start = summed .before .before .before .before in
-    stamped (start .args .out .now) _ _ (summed .sums-of .result) (start .pre) (summed .sums-of .ensures) (one .put .ensures) (c .before .before .put2 .ensures)
+    stamped (start .args .out .now) _ _ (summed .sums-of .result) (start .pre) (summed .sums-of .ensures)
+    (one .put .ensures) (c .before .before .put2 .ensures)
 
 pub stamp-spec : {M : Type 1} → statement M
 stamp-spec =

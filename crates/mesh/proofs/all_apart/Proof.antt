@@ -46,7 +46,8 @@ returns c =
     let k = c .before .before .before .before in
     let a = k .before .before .before .args in
     let i = k .loop .row in
-    sym (apart-longer (a .table .now) (suc i) (a .n) (omega arith) (more (c .before) ∙ ap (λ b. b && facesApart (rowsIn (a .table .now) i)) (not-true (c .before .row-apart .result) (c .if1 .taken))))
+    let no = not-true (c .before .row-apart .result) (c .if1 .taken) in
+    sym (apart-longer (a .table .now) (suc i) (a .n) (omega arith) (more (c .before) ∙ ap (λ b. b && facesApart (rowsIn (a .table .now) i)) no))
 
 add-row : tie.Need-add-row Inv-loop μ-loop
 add-row c = omega arith

@@ -7,8 +7,8 @@ use native.Mathlib.Omega.{arith}
 use borrow.Author.Needs.{needs}
 use borrow.Author.Tests.{not-true, not-false}
 use Rattle.lists.specs.Lists.{every, numbersFrom}
+use Rattle.lists.proofs.Lists.{every-snoc, every-no}
 use Rattle.mesh.specs.Mesh.{rowIn, rowsIn, numbersFit}
-use Rattle.mesh.proofs.Lists.{every-snoc, every-no}
 use Rattle.mesh.proofs.Tables.{rows-more, row-among}
 use Rattle.mesh.proofs.all_fit.Statement.{statement}
 use Rattle.mesh.proofs.all_fit.Tie as tie
@@ -48,7 +48,8 @@ loop-again c =
     let a = k .before .before .args in
     let i = k .loop .i in
     let e = ap (numbersFit (a .count)) (sym (c .before .before .row-in .ensures)) ∙ sym (c .before .fits2 .ensures) ∙ not-false _ (c .if1 .left) in
-    (omega arith, rw (add-one i, rows-more (a .table .now) i, every-snoc (numbersFit (a .count)) (rowsIn (a .table .now) i) (rowIn (a .table .now) i), k .loop .inv .1) e)
+    let table = a .table .now in
+    (omega arith, rw (add-one i, rows-more table i, every-snoc (numbersFit (a .count)) (rowsIn table i) (rowIn table i), k .loop .inv .1) e)
 
 returns-2 : tie.Need-returns-2 Inv-loop μ-loop
 returns-2 c =

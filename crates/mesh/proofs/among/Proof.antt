@@ -8,7 +8,7 @@ use lib.Dec.{eqb}
 use lib.ListN.{length, getD, take}
 use lib.Seq.{take-suc}
 use Rattle.lists.specs.Lists.{any, has}
-use Rattle.mesh.proofs.Lists.{any-snoc}
+use Rattle.lists.proofs.Lists.{any-snoc}
 use Rattle.mesh.proofs.among.Statement.{statement}
 use Rattle.mesh.proofs.among.Tie as tie
 

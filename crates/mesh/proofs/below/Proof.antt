@@ -2,7 +2,7 @@
 use borrow.Author.Tests.{lt-ltb, le-ltb}
 use mathlib.Core.Path.{sym}
 use Rattle.lists.specs.Lists.{every}
-use Rattle.mesh.proofs.Lists.{and-true}
+use Rattle.lists.proofs.Tests.{and-true}
 use borrow.Author.Needs.{needs}
 use Rattle.mesh.proofs.below.Statement.{statement}
 use Rattle.mesh.proofs.below.Tie as tie
@@ -33,7 +33,12 @@ cast-result c = search needs
 
 returns-4 : tie.Need-returns-4
 unfolding every
-returns-4 c = rw (lt-ltb _ _ (c .before .before .before .before .before .if1 .left), lt-ltb _ _ (c .before .before .before .if2 .left), lt-ltb _ _ (c .before .if3 .left)) (sym (and-true _))
+returns-4 c =
+    rw (
+      lt-ltb _ _ (c .before .before .before .before .before .if1 .left),
+      lt-ltb _ _ (c .before .before .before .if2 .left),
+      lt-ltb _ _ (c .before .if3 .left),
+    ) (sym (and-true _))
 
 pub below-spec : {M : Type 1} → statement M
 below-spec =

@@ -6,10 +6,10 @@ use native.Mathlib.Omega.{arith}
 use lib.ListN.{length, take}
 use borrow.Author.Needs.{needs}
 use Rattle.lists.specs.Lists.{numbersFrom}
+use Rattle.lists.proofs.Images.{flatMap-snoc}
 use mathlib.Core.List.{flatMap}
 use Rattle.mesh.specs.Mesh.{rowIn, rowsIn}
 use Rattle.mesh.specs.Keys.{rowFaces, mostKeys, rowKeys, tableKeys}
-use Rattle.mesh.proofs.Lists.{flatMap-snoc}
 use Rattle.mesh.proofs.Tables.{rows-more}
 use Rattle.mesh.proofs.keys_of.Statement.{statement}
 use Rattle.mesh.proofs.keys_of.Tie as tie

@@ -4,7 +4,7 @@ use mathlib.Core.Bool.{not}
 use mathlib.Core.Path.{sym, ap, _∙_}
 use native.Mathlib.Omega.{arith}
 use Rattle.lists.specs.Lists.{every}
-use Rattle.mesh.proofs.Lists.{and-true}
+use Rattle.lists.proofs.Tests.{and-true}
 use Rattle.mesh.proofs.Stored.{four-read}
 use borrow.Author.Needs.{needs}
 use Rattle.mesh.proofs.row_apart.Statement.{statement}
@@ -44,7 +44,11 @@ returns-2 : tie.Need-returns-2
 unfolding every
 returns-2 c =
     let a = c .before .before .before .before .before .before .args in
-    rw (four-read (a .keys .now) (4 * a .i) (omega arith), sym (c .before .before .before .before .among .ensures) ∙ c .before .before .before .if1 .left, sym (c .before .among2 .ensures) ∙ c .if2 .taken)
+    rw (
+      four-read (a .keys .now) (4 * a .i) (omega arith),
+      sym (c .before .before .before .before .among .ensures) ∙ c .before .before .before .if1 .left,
+      sym (c .before .among2 .ensures) ∙ c .if2 .taken,
+    )
 
 add-among-2 : tie.Need-add-among-2
 add-among-2 c = search needs
@@ -62,7 +66,12 @@ returns-3 : tie.Need-returns-3
 unfolding every
 returns-3 c =
     let a = c .before .before .before .before .before .before .before .before .before .args in
-    rw (four-read (a .keys .now) (4 * a .i) (omega arith), sym (c .before .before .before .before .before .before .before .among .ensures) ∙ c .before .before .before .before .before .before .if1 .left, sym (c .before .before .before .before .among2 .ensures) ∙ c .before .before .before .if2 .left, sym (c .before .among3 .ensures) ∙ c .if3 .taken)
+    rw (
+      four-read (a .keys .now) (4 * a .i) (omega arith),
+      sym (c .before .before .before .before .before .before .before .among .ensures) ∙ c .before .before .before .before .before .before .if1 .left,
+      sym (c .before .before .before .before .among2 .ensures) ∙ c .before .before .before .if2 .left,
+      sym (c .before .among3 .ensures) ∙ c .if3 .taken,
+    )
 
 add-among-3 : tie.Need-add-among-3
 add-among-3 c = search needs
@@ -80,7 +89,12 @@ returns-4 : tie.Need-returns-4
 unfolding every
 returns-4 c =
     let a = c .before .before .before .before .before .before .before .before .before .before .before .args in
-    rw (four-read (a .keys .now) (4 * a .i) (omega arith), sym (c .before .before .before .before .before .before .before .before .before .among .ensures) ∙ c .before .before .before .before .before .before .before .before .if1 .left, sym (c .before .before .before .before .before .before .among2 .ensures) ∙ c .before .before .before .before .before .if2 .left, sym (c .before .before .before .among3 .ensures) ∙ c .before .before .if3 .left) (ap not (c .among4 .ensures) ∙ sym (and-true _))
+    rw (
+      four-read (a .keys .now) (4 * a .i) (omega arith),
+      sym (c .before .before .before .before .before .before .before .before .before .among .ensures) ∙ c .before .before .before .before .before .before .before .before .if1 .left,
+      sym (c .before .before .before .before .before .before .among2 .ensures) ∙ c .before .before .before .before .before .if2 .left,
+      sym (c .before .before .before .among3 .ensures) ∙ c .before .before .if3 .left,
+    ) (ap not (c .among4 .ensures) ∙ sym (and-true _))
 
 pub row-apart-spec : {M : Type 1} → statement M
 row-apart-spec =

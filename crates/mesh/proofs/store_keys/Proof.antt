@@ -64,7 +64,13 @@ returns c =
     let a = s .args in
     let more : 4 * (a .i + 1) ≡ 4 * a .i + 4 = omega arith in (
       simp length-set (s .pre .0),
-      rw (more, c .before .before .before .face-key .ensures, c .before .before .face-key2 .ensures, c .before .face-key3 .ensures, c .face-key4 .ensures)
+      rw (
+        more,
+        c .before .before .before .face-key .ensures,
+        c .before .before .face-key2 .ensures,
+        c .before .face-key3 .ensures,
+        c .face-key4 .ensures,
+      )
           (four-stored (a .keys .now) (4 * a .i) (omega arith) _ _ _ _),
     )
 

@@ -6,12 +6,11 @@ use native.Mathlib.Numerals.{add-one}
 use native.Mathlib.Omega.{arith}
 use borrow.Author.Needs.{needs}
 use Rattle.lists.specs.Lists.{any, numbersFrom}
+use Rattle.lists.proofs.Tests.{yes-is, is-yes}
+use Rattle.lists.proofs.Lists.{any-i, any-snoc}
 use Rattle.mesh.specs.Mesh.{rowIn, rowsIn, uses}
-use Rattle.mesh.proofs.Lists.{any-snoc}
 use Rattle.mesh.proofs.Tables.{rows-more, row-among, row-bytes}
 use Rattle.mesh.proofs.Keys.{key-in-row}
-use Rattle.lists.proofs.Tests.{yes-is, is-yes}
-use Rattle.lists.proofs.Lists.{any-i}
 use Rattle.mesh.proofs.uses_face.Statement.{statement}
 use Rattle.mesh.proofs.uses_face.Tie as tie
 
@@ -23,7 +22,8 @@ abbrev μ-loop : tie.MeasureT-loop
 
 -- what the call of `row_uses` answers is whether the row uses the face
 used : (c : tie.After-row-uses Inv-loop μ-loop)
-    → (let a = c .before .before .before .before .before .before .args in uses (a .x, a .y, a .z) (rowIn (a .table .now) (c .before .before .before .loop .i)) ≡ c .row-uses .result)
+    → (let a = c .before .before .before .before .before .before .args in
+    uses (a .x, a .y, a .z) (rowIn (a .table .now) (c .before .before .before .loop .i)) ≡ c .row-uses .result)
 used c =
     let k = c .before .before .before in
     let s = k .before .before .before in
@@ -51,7 +51,8 @@ returns c =
     let k = c .before .before .before .before in
     let a = k .before .before .before .args in
     let i = k .loop .i in
-    sym (yes-is _ (any-i (uses (a .x, a .y, a .z)) (rowsIn (a .table .now) (a .n)) (row-among (a .table .now) (a .n) i (omega arith)) (is-yes _ (used (c .before) ∙ c .if1 .taken))))
+    sym (yes-is _ (any-i (uses (a .x, a .y, a .z)) (rowsIn (a .table .now) (a .n))
+    (row-among (a .table .now) (a .n) i (omega arith)) (is-yes _ (used (c .before) ∙ c .if1 .taken))))
 
 add-i : tie.Need-add-i Inv-loop μ-loop
 add-i c = omega arith
@@ -66,7 +67,12 @@ loop-again c =
     let i = k .loop .i in
     let table = a .table .now in (
       omega arith,
-      rw (add-one i, rows-more table i, any-snoc (uses (a .x, a .y, a .z)) (rowsIn table i) (rowIn table i), k .loop .inv .1) (used (c .before) ∙ c .if1 .left),
+      rw (
+        add-one i,
+        rows-more table i,
+        any-snoc (uses (a .x, a .y, a .z)) (rowsIn table i) (rowIn table i),
+        k .loop .inv .1,
+      ) (used (c .before) ∙ c .if1 .left),
     )
 
 returns-2 : tie.Need-returns-2 Inv-loop μ-loop

@@ -1,15 +1,13 @@
 -- The invariant of `keep_others`: the rows that stay, of the first i, stand at the front of the scratch table.
-use Prim.Native.Nat.{_≤_, _-_, _*_}
-use mathlib.Core.List.{_++_, flatMap}
+use Prim.Native.Nat.{_≤_, _-_}
+use mathlib.Core.List.{flatMap}
 use mathlib.Core.Logic.{⊎-elim}
-use mathlib.Core.Path.{_≡_, refl, sym, ap, _∙_}
+use mathlib.Core.Path.{_≡_, refl, _∙_}
 use native.Mathlib.Omega.{arith}
 use borrow.Author.Needs.{needs}
-use lib.ListN.{length, drop}
 use Rattle.lists.specs.Lists.{those, numbersFrom}
-use Rattle.mesh.specs.Mesh.{rowSize, rowBytes, rowsIn}
-use Rattle.output.specs.Output.{staying}
-use Rattle.output.proofs.Tables.{front-size, front-more}
+use Rattle.mesh.specs.Mesh.{rowsIn}
+use Rattle.output.proofs.Tables.{front-size}
 use Rattle.output.proofs.Staying.{Front, stays-more, goes-more}
 use Rattle.output.proofs.keep_others.Statement.{statement}
 use Rattle.output.proofs.keep_others.Tie as tie

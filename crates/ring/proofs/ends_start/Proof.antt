@@ -6,9 +6,9 @@ use native.Mathlib.Omega.{arith}
 use borrow.Author.Tests.{not-true, not-false}
 use lib.ListN.{drop, drop-of-length-le}
 use Rattle.lists.specs.Lists.{every, has}
+use Rattle.lists.proofs.Lists.{every-here, every-later}
 use Rattle.ring.specs.Ring.{starts}
 use Rattle.ring.specs.Found.{ends, linksIn}
-use Rattle.ring.proofs.Lists.{every-here, every-later}
 use Rattle.ring.proofs.Arrays.{ends-length, ends-drop}
 use Rattle.ring.proofs.ends_start.Statement.{statement}
 use Rattle.ring.proofs.ends_start.Tie as tie

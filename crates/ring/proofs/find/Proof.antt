@@ -119,7 +119,8 @@ returns-6 : tie.Need-returns-6
 returns-6 c =
     let w = c .before .before .before .before .before .before .before .before .before .before in
     let closed = not-false (back w) (c .before .before .before .before .before .before .before .before .if2 .left) in
-    c .refused6 .ensures ∙ gives-long (gone w) closed (c .before .before .before .before .before .if3 .left) (c .before .before .before .if5 .left) (omega (arith, c .before .if6 .taken))
+    c .refused6 .ensures ∙ gives-long (gone w) closed (c .before .before .before .before .before .if3 .left)
+    (c .before .before .before .if5 .left) (omega (arith, c .before .if6 .taken))
 
 ring-of-requires : tie.Need-ring-of-requires
 ring-of-requires c κs = search needs

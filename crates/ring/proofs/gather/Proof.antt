@@ -5,9 +5,9 @@ use mathlib.Core.Logic.{⊎-elim}
 use native.Mathlib.Omega.{arith}
 use borrow.Author.Needs.{needs}
 use Rattle.lists.specs.Lists.{those, numbersFrom}
+use Rattle.lists.proofs.Tests.{is-yes}
 use Rattle.mesh.specs.Mesh.{rowsIn}
 use Rattle.ring.specs.Found.{linksIn, linksOf}
-use Rattle.lists.proofs.Tests.{is-yes}
 use Rattle.ring.proofs.Tables.{row-fits, table-more, table-same}
 use Rattle.ring.proofs.gather.Statement.{statement}
 use Rattle.ring.proofs.gather.Tie as tie
@@ -35,7 +35,8 @@ link-of-requires c κs =
     let table = at .before .before .args .table .now in
     record {
       count = pre .count;
-      fits = rw (c .before .before .row-in .ensures) (row-fits (pre .count) table (at .before .before .args .n) (at .loop .i) (pre .rule) (omega arith));
+      fits =
+          rw (c .before .before .row-in .ensures) (row-fits (pre .count) table (at .before .before .args .n) (at .loop .i) (pre .rule) (omega arith));
       apart = λ e. omega (arith, pre .order);
       held = is-yes _ (sym (c .before .holds-edge .ensures) ∙ c .if1 .taken);
     }
@@ -59,7 +60,8 @@ loop-again c =
     (λ w. (
       omega arith,
       omega (arith, ap (λ links. links .n) (w .3), w .2 .ensures .0),
-      ap linksIn (w .3) ∙ w .2 .ensures .1 ∙ table-more (args .a) (args .b) (args .table .now) (at .loop .i) (at .loop .inv .2) row (sym held ∙ w .0 .taken) (w .1 .ensures),
+      ap linksIn (w .3) ∙ w .2 .ensures .1 ∙ table-more (args .a) (args .b) (args .table .now) (at .loop .i)
+          (at .loop .inv .2) row (sym held ∙ w .0 .taken) (w .1 .ensures),
     ))
     (λ w. (
       omega arith,

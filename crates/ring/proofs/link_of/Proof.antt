@@ -4,15 +4,15 @@ use native.Mathlib.Omega.{arith}
 use mathlib.Core.List.{List·Memᴰ}
 use mathlib.Core.Path.{_≡_, sym, _∙_}
 use Rattle.lists.proofs.Tests.{and-l, and-r}
+use Rattle.lists.proofs.Places.{at-in}
 use Rattle.mesh.specs.declared.Row.{Row}
 use Rattle.mesh.specs.Mesh.{holds, noRow}
 use Rattle.mesh.specs.Tetrahedra.{evenly}
-use Rattle.mesh.proofs.Lists.{at-in}
 use Rattle.mesh.proofs.Rule.{fit-proper}
-use Rattle.mesh.proofs.Evenly.{even-i}
+use Rattle.mesh.proofs.Evenly.{even-i, holds-cases}
 use Rattle.ring.specs.Ring.{link}
 use Rattle.ring.specs.Found.{LinkedRow, following}
-use Rattle.ring.proofs.Linking.{holds-cases, link-following}
+use Rattle.ring.proofs.Linking.{link-following}
 use borrow.Author.Needs.{needs}
 use Rattle.ring.proofs.link_of.Statement.{statement}
 use Rattle.ring.proofs.link_of.Tie as tie
@@ -39,14 +39,16 @@ after-requires-2 c κs = search needs
 
 returns-2 : tie.Need-returns-2
 unfolding evenly
-returns-2 c = c .after2 .ensures ∙ opposite (c .before .before .before .before .before .pre) (at-in (evenly _) 3 noRow (omega arith)) (c .before .if2 .taken)
+returns-2 c =
+    c .after2 .ensures ∙ opposite (c .before .before .before .before .before .pre) (at-in (evenly _) 3 noRow (omega arith)) (c .before .if2 .taken)
 
 after-requires-3 : tie.Need-after-requires-3
 after-requires-3 c κs = search needs
 
 returns-3 : tie.Need-returns-3
 unfolding evenly
-returns-3 c = c .after3 .ensures ∙ opposite (c .before .before .before .before .before .before .before .pre) (at-in (evenly _) 6 noRow (omega arith)) (c .before .if3 .taken)
+returns-3 c =
+    c .after3 .ensures ∙ opposite (c .before .before .before .before .before .before .before .pre) (at-in (evenly _) 6 noRow (omega arith)) (c .before .if3 .taken)
 
 after-requires-4 : tie.Need-after-requires-4
 after-requires-4 c κs = search needs
@@ -55,7 +57,8 @@ returns-4 : tie.Need-returns-4
 unfolding evenly
 returns-4 c =
     let pre = c .before .before .before .before .before .before .before .pre in
-    let at-last = last-place pre (c .before .before .before .before .before .if1 .left) (c .before .before .before .if2 .left) (c .before .if3 .left) in
+    let at-last =
+    last-place pre (c .before .before .before .before .before .if1 .left) (c .before .before .before .if2 .left) (c .before .if3 .left) in
     c .after4 .ensures ∙ opposite pre (at-in (evenly _) 9 noRow (omega arith)) at-last
 
 pub link-of-spec : {M : Type 1} → statement M

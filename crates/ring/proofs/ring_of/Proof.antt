@@ -16,10 +16,16 @@ Inv-loop m v ring₀ i₀ ring i = (i ≤ m) × (ring ≡ take i v ++ replicate 
 abbrev μ-loop : tie.MeasureT-loop
 μ-loop m v ring₀ i₀ ring i = m - i
 
-copied : (v : List ℕ) (i : ℕ) → i < length v → i < 10 → set (take i v ++ replicate (10 - i) 0) i (getD v i 0) ≡ take (i + 1) v ++ replicate (10 - (i + 1)) 0
+copied : (v : List ℕ) (i : ℕ) → i < length v → i < 10
+    → set (take i v ++ replicate (10 - i) 0) i (getD v i 0) ≡ take (i + 1) v ++ replicate (10 - (i + 1)) 0
 copied v i h l =
     let e : 10 - i ≡ suc (10 - (i + 1)) = omega arith in
-    rw (e, set-at (take i v) 0 (replicate (10 - (i + 1)) 0) (getD v i 0) i (length-take-le i v (omega arith)), add-one, take-suc v i 0) (sym (append-assoc (take i v) _ _))
+    rw (
+      e,
+      set-at (take i v) 0 (replicate (10 - (i + 1)) 0) (getD v i 0) i (length-take-le i v (omega arith)),
+      add-one,
+      take-suc v i 0,
+    ) (sym (append-assoc (take i v) _ _))
 
 loop-holds : tie.Need-loop-holds Inv-loop μ-loop
 loop-holds c = (omega arith, refl)

@@ -6,9 +6,9 @@ use mathlib.Core.Path.{_≡_, refl, sym, _∙_, subst}
 use borrow.Author.Count.{below-more}
 use native.Mathlib.Omega.{arith}
 use lib.ListN.{getD}
+use Rattle.lists.proofs.Places.{at-in, in-at}
 use Rattle.ring.specs.Ring.{starts}
 use Rattle.ring.specs.Found.{linksIn}
-use Rattle.mesh.proofs.Lists.{at-in, in-at}
 use Rattle.ring.proofs.Arrays.{starts-length, starts-at}
 use Rattle.ring.proofs.Rounding.{smallest-is}
 use Rattle.ring.proofs.smallest_start.Statement.{statement}

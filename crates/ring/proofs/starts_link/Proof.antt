@@ -7,9 +7,9 @@ use borrow.Author.Tests.{eq-eqb, ne-eqb}
 use lib.Dec.{eqb}
 use lib.ListN.{drop, drop-of-length-le}
 use Rattle.lists.specs.Lists.{any, has}
+use Rattle.lists.proofs.Lists.{any-here, any-later}
 use Rattle.ring.specs.Ring.{starts}
 use Rattle.ring.specs.Found.{linksIn}
-use Rattle.ring.proofs.Lists.{any-here, any-later}
 use Rattle.ring.proofs.Arrays.{starts-length, starts-drop}
 use Rattle.ring.proofs.starts_link.Statement.{statement}
 use Rattle.ring.proofs.starts_link.Tie as tie

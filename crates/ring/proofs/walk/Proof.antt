@@ -118,7 +118,8 @@ returns-3 c =
     let d = drop-of-length-le (linksIn links) {i = at .loop .i} (omega (arith, in-length links)) in
     let e : next (linksIn links) (at .loop .here) ≡ none = inv .4 ∙ rw d in (
       omega arith,
-      walk-stops (linksIn links) (out .before .args .start) (links .n) (out .walk .m) (out .walk .v) (out .walk .here) (out .walk .inv .3) (rw (inv .1) at e),
+      walk-stops (linksIn links) (out .before .args .start) (links .n) (out .walk .m) (out .walk .v) (out .walk .here)
+          (out .walk .inv .3) (rw (inv .1) at e),
     )
 
 pub walk-spec : {M : Type 1} → statement M
