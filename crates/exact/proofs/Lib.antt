@@ -1,4 +1,3 @@
-pub mod Compared
 pub mod Steps
 pub mod Cross
 pub mod Laws

@@ -1,34 +1,33 @@
 -- The steps of the order by whole parts and remainders, each held to the cross products n1 d2 and n2 d1.
-use Prim.Native.Nat.{ℕ, _+_, _*_, _/_, _%_, _<_, _≤_}
-use mathlib.Core.Path.{_≡_, ap, ap₂, _∙_}
+use Prim.Native.Nat.{ℕ, _*_, _/_, _%_, _<_, _≤_}
+use mathlib.Core.Bool.{Bool, true, false, not}
+use mathlib.Core.Path.{_≡_, sym, ap, ap₂}
 use native.Mathlib.Nat.{mul-comm, mul-pos, mod-lt, div-add-mod', mul-le-mul-right, mul-lt-mul-of-pos-right}
 use native.Mathlib.Omega.{arith}
-use Rattle.exact.specs.declared.Comparison.{Comparison}
-use Rattle.exact.specs.declared.Comparison.the-variants.{Less, Equal, Greater}
-use Rattle.exact.specs.Fractions.{compared, orderOf}
-use Rattle.exact.proofs.Compared.{Says, says, so}
+use lib.Dec.{T, ltb, ltb→lt, nltb→le}
+use borrow.Author.Tests.{lt-ltb, le-ltb}
+use Rattle.exact.specs.Fractions.{isLess}
 
--- what is added on both sides does not count
-shift : (k a b : ℕ) → compared a b ≡ compared (k + a) (k + b)
-shift k a b = so (compared a b) (k + a) (k + b) (go (compared a b) (says a b))
+-- two tests agree where the one leads to the other, and its failing to the other's failing
+pub as-test : (a b c d : ℕ) → (a < b → c < d) → (b ≤ a → d ≤ c) → ltb a b ≡ ltb c d
+as-test a b c d f g = go (ltb a b) (ltb→lt a b) (nltb→le a b)
   where
-    go : (o : Comparison) → Says o a b → Says o (k + a) (k + b)
-    go Less h = omega arith
-    go Equal h = omega arith
-    go Greater h = omega arith
+    go : (x : Bool) → (T x → a < b) → (T (not x) → b ≤ a) → x ≡ ltb c d
+    go true h k = sym (lt-ltb c d (f (h tt)))
+    go false h k = sym (le-ltb c d (g (k tt)))
 
 module _ (n1 d1 n2 d2 : ℕ) where
-  -- 0 / 0 stands to everything as an equal
-  pub nothing : n1 ≡ 0 → d1 ≡ 0 → n1 * d2 ≡ n2 * d1
-  nothing p q = omega (arith, ap (λ (x : ℕ). x * d2) p, ap (λ (x : ℕ). n2 * x) q)
+  -- nothing is over n1 / 0
+  pub none-over : d1 ≡ 0 → n2 * d1 ≤ n1 * d2
+  none-over p = omega (arith, ap (λ (x : ℕ). n2 * x) p)
 
-  -- two denominators of 0
-  pub no-denominators : d1 ≡ 0 → d2 ≡ 0 → n1 * d2 ≡ n2 * d1
-  no-denominators p q = omega (arith, ap (λ (x : ℕ). n1 * x) q, ap (λ (x : ℕ). n2 * x) p)
-
-  -- n1 / 0 over a fraction
-  pub over-all : 0 < n1 → d1 ≡ 0 → 0 < d2 → n2 * d1 < n1 * d2
-  over-all p q h = omega (arith, ap (λ (x : ℕ). n2 * x) q, mul-pos p h)
+  -- n2 / 0 is over every fraction, 0 / 0 over none
+  pub over-all : 0 < d1 → d2 ≡ 0 → ltb 0 n2 ≡ isLess n1 d1 n2 d2
+  over-all p q =
+      let e = ap (λ (x : ℕ). n1 * x) q in
+      as-test 0 n2 (n1 * d2) (n2 * d1)
+      (λ h. omega (arith, mul-pos h p))
+      (λ h. let none : n2 ≡ 0 = omega arith in omega (arith, ap (λ (x : ℕ). x * d1) none))
 
   -- below 1, and not below 1
   pub below-one : n1 < d1 → d2 ≤ n2 → 0 < d2 → n1 * d2 < n2 * d1
@@ -44,18 +43,13 @@ module _ (n1 d1 n2 d2 : ℕ) where
       omega arith
 
   -- both turned over, and exchanged
-  pub turned-over : orderOf d2 n2 d1 n1 ≡ orderOf n1 d1 n2 d2
-  turned-over = ap₂ compared (mul-comm d2 n1) (mul-comm d1 n2)
+  pub turned-over : isLess d2 n2 d1 n1 ≡ isLess n1 d1 n2 d2
+  turned-over = ap₂ ltb (mul-comm d2 n1) (mul-comm d1 n2)
 
   -- one whole part: the remainders decide
-  pub same-part : n1 / d1 ≡ n2 / d2 → orderOf d2 (n2 % d2) d1 (n1 % d1) ≡ orderOf n1 d1 n2 d2
-  same-part e = shift k (d2 * (n1 % d1)) (d1 * (n2 % d2)) ∙ ap₂ compared left right
-    where
-      k : ℕ
-      k = n1 / d1 * (d1 * d2)
-
-      left : k + d2 * (n1 % d1) ≡ n1 * d2
-      left = omega (arith, ap (λ (x : ℕ). x * d2) (div-add-mod' n1 d1))
-
-      right : k + d1 * (n2 % d2) ≡ n2 * d1
-      right = omega (arith, ap (λ (x : ℕ). x * d1) (div-add-mod' n2 d2), ap (λ (x : ℕ). x * (d1 * d2)) e)
+  pub same-part : n1 / d1 ≡ n2 / d2 → isLess d2 (n2 % d2) d1 (n1 % d1) ≡ isLess n1 d1 n2 d2
+  same-part e =
+      let left = ap (λ (x : ℕ). x * d2) (div-add-mod' n1 d1) in
+      let right = ap (λ (x : ℕ). x * d1) (div-add-mod' n2 d2) in
+      let parts = ap (λ (x : ℕ). x * (d1 * d2)) e in
+      as-test (d2 * (n1 % d1)) (d1 * (n2 % d2)) (n1 * d2) (n2 * d1) (λ h. omega arith) (λ h. omega arith)

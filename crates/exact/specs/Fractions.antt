@@ -2,18 +2,8 @@
 use Prim.Native.Nat.{ℕ, _+_, _*_, _/_, _%_}
 use mathlib.Core.Bool.{Bool, cond}
 use lib.Dec.{eqb, ltb}
-use Rattle.exact.specs.declared.Comparison.{Comparison}
-use Rattle.exact.specs.declared.Comparison.the-variants.{Less, Equal, Greater}
 
--- how a stands to b
-unfoldable pub compared : ℕ → ℕ → Comparison
-compared a b = cond (ltb a b) Less (cond (ltb b a) Greater Equal)
-
--- "ordered as exact fractions": how n1 / d1 stands to n2 / d2, by the cross products as whole numbers of any size
-abbrev pub orderOf : ℕ → ℕ → ℕ → ℕ → Comparison
-orderOf n1 d1 n2 d2 = compared (n1 * d2) (n2 * d1)
-
--- n1 / d1 is less than n2 / d2
+-- "ordered as exact fractions": n1 / d1 is less than n2 / d2, by the cross products as whole numbers of any size
 abbrev pub isLess : ℕ → ℕ → ℕ → ℕ → Bool
 isLess n1 d1 n2 d2 = ltb (n1 * d2) (n2 * d1)
 

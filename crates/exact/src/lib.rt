@@ -1,65 +1,37 @@
-// Fractions of whole numbers in 64 bits: which of two is the larger, and a quotient rounded up.
+// Fractions of whole numbers in 64 bits: which of two is the smaller, and a quotient rounded up.
 // Every input has an answer, a denominator of 0 included, and nothing is ever too large.
 ghost use mathlib.Core.Path.{_≡_};
-ghost use Rattle.exact.specs.Fractions.{isLess, orderOf, roundedUp};
+ghost use Rattle.exact.specs.Fractions.{isLess, roundedUp};
 
-// How the first of two stands to the second.
-pub enum Comparison {
-    Less,
-    Equal,
-    Greater,
-}
-
-// How n1 / d1 stands to n2 / d2, by whole parts, and where those are one, by the remainders: r1 / d1 stands to r2 / d2
-// as d2 / r2 stands to d1 / r1. Two fractions below 1 are turned over at once, which saves their two divisions.
-pub fn order(n1: u64, d1: u64, n2: u64, d2: u64) -> Comparison
-    ensures { λ r. ⌜ r ≡ orderOf n1 d1 n2 d2 ⌝ }
+// Whether n1 / d1 is less than n2 / d2, by whole parts, and where those are one, by the remainders: r1 / d1 is less than
+// r2 / d2 as d2 / r2 is less than d1 / r1. Two fractions below 1 are turned over at once, which saves their two divisions.
+pub fn less(n1: u64, d1: u64, n2: u64, d2: u64) -> bool
+    ensures { λ r. ⌜ r ≡ isLess n1 d1 n2 d2 ⌝ }
 {
     if d1 == 0 {
-        if n1 == 0 {
-            return Comparison::Equal;
-        }
-        if d2 == 0 {
-            return Comparison::Equal;
-        }
-        return Comparison::Greater;
+        return false;
     }
     if d2 == 0 {
-        if n2 == 0 {
-            return Comparison::Equal;
-        }
-        return Comparison::Less;
+        return 0 < n2;
     }
     if n1 < d1 {
         if n2 < d2 {
-            return order(d2, n2, d1, n1);
+            return less(d2, n2, d1, n1);
         }
-        return Comparison::Less;
+        return true;
     }
     if n2 < d2 {
-        return Comparison::Greater;
+        return false;
     }
     let q1 = n1 / d1;
     let q2 = n2 / d2;
     if q1 < q2 {
-        return Comparison::Less;
+        return true;
     }
     if q2 < q1 {
-        return Comparison::Greater;
+        return false;
     }
-    order(d2, n2 % d2, d1, n1 % d1)
-}
-
-// Whether n1 / d1 is less than n2 / d2.
-pub fn less(n1: u64, d1: u64, n2: u64, d2: u64) -> bool
-    ensures { λ r. ⌜ r ≡ isLess n1 d1 n2 d2 ⌝ }
-{
-    let stands = order(n1, d1, n2, d2);
-    match stands {
-        Comparison::Less => true,
-        Comparison::Equal => false,
-        Comparison::Greater => false,
-    }
+    less(d2, n2 % d2, d1, n1 % d1)
 }
 
 // n / d rounded up; 0 where d is 0.

@@ -1,6 +1,8 @@
 -- A directed face as one number, so that two faces are compared by one comparison.
 use Prim.Native.Nat.{ℕ, _+_, _*_, min}
+use mathlib.Core.Bool.{Bool, _||_}
 use mathlib.Core.List.{List, map, flatMap}
+use lib.Dec.{eqb}
 use Rattle.mesh.specs.declared.Row.{Row}
 use Rattle.mesh.specs.Mesh.{Face, faces}
 
@@ -35,3 +37,7 @@ rowKeys row = map faceKey (faces row)
 -- the keys of the directed faces of a table's rows, in order
 abbrev pub tableKeys : List Row → List ℕ
 tableKeys rows = flatMap rowKeys rows
+
+-- a key is one of four
+unfoldable pub oneOf : ℕ → ℕ → ℕ → ℕ → ℕ → Bool
+oneOf a b c d key = eqb a key || eqb b key || eqb c key || eqb d key

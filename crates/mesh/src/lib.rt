@@ -7,7 +7,7 @@ ghost use lib.Dec.{ltb};
 ghost use lib.ListN.{length, take, drop};
 ghost use Rattle.lists.specs.Lists.{every, any, has, different};
 ghost use Rattle.mesh.specs.Mesh.{rowSize, rowIn, rowsIn, numbers, uses, numbersFit, facesApart, keepsMeshRule};
-ghost use Rattle.mesh.specs.Keys.{mostRows, rowFaces, mostKeys, threeAsOne, faceKey, rowKeys, tableKeys};
+ghost use Rattle.mesh.specs.Keys.{mostRows, rowFaces, mostKeys, threeAsOne, faceKey, rowKeys, tableKeys, oneOf};
 
 // The bytes of a row, its faces, and the faces of the longest table: 60 rows of a block and one more while it is changed.
 const ROW_SIZE: usize = 5;
@@ -166,22 +166,27 @@ pub fn among(keys: &[u32; MOST_KEYS], n: usize, key: u32) -> bool
 
 // ---- the mesh rule
 
+// One of four keys stands among the first n. They are looked for in one pass, and in every key, so that many are compared
+// at once.
+fn some_among(keys: &[u32; MOST_KEYS], n: usize, a: u32, b: u32, c: u32, d: u32) -> bool
+    requires { ⌜ (length (now keys) ≡ mostKeys) × (n ≤ mostKeys) ⌝ }
+    ensures { λ r. ⌜ r ≡ any (oneOf a b c d) (take n (now (keys .entry))) ⌝ }
+{
+    let mut found = false;
+    for i in 0..n {
+        let key = keys[i];
+        found = found | ((a == key) | (b == key) | (c == key) | (d == key));
+    }
+    found
+}
+
 // No key of row i stands among the keys of the rows before it.
 fn row_apart(keys: &[u32; MOST_KEYS], i: usize) -> bool
     requires { ⌜ (length (now keys) ≡ mostKeys) × (i < mostRows) ⌝ }
     ensures { λ r. ⌜ r ≡ every (λ k. not (has (take (rowFaces * i) (now (keys .entry))) k)) (take rowFaces (drop (rowFaces * i) (now (keys .entry)))) ⌝ }
 {
     let at = ROW_FACES * i;
-    if among(keys, at, keys[at]) {
-        return false;
-    }
-    if among(keys, at, keys[at + 1]) {
-        return false;
-    }
-    if among(keys, at, keys[at + 2]) {
-        return false;
-    }
-    !among(keys, at, keys[at + 3])
+    !some_among(keys, at, keys[at], keys[at + 1], keys[at + 2], keys[at + 3])
 }
 
 // No directed face stands in two of the first n rows.

@@ -1,0 +1,86 @@
+//! What both sides are called with: rows, fractions and blocks of the generator's cases.
+
+use compare::gen::{cases, Case};
+use compare::model::limits::{MAX_POINTS, MAX_ROWS};
+use compare::model::{open, Call, Patch};
+use compare::quick;
+
+pub const SEED: u64 = 1;
+const CASES: u64 = 4000;
+
+/// Numerator and denominator.
+pub type Fraction = (u64, u64);
+
+pub struct Inputs {
+    /// The four points of a row.
+    pub corners: Vec<[u8; 12]>,
+    /// Upright qualities.
+    pub fractions: Vec<Fraction>,
+    /// Two upright qualities of one patch.
+    pub pairs: Vec<[Fraction; 2]>,
+    /// The same, next to each other in their order.
+    pub close_pairs: Vec<[Fraction; 2]>,
+    /// Blocks with 64 points and 60 rows that open.
+    pub full_blocks: Vec<Vec<u8>>,
+}
+
+impl Inputs {
+    pub fn new() -> Inputs {
+        let mut inputs = Inputs {
+            corners: vec![],
+            fractions: vec![],
+            pairs: vec![],
+            close_pairs: vec![],
+            full_blocks: vec![],
+        };
+        for case in cases(SEED, CASES) {
+            let Some(block) = block_of(case) else {
+                continue;
+            };
+            let Ok(patch) = open(&block) else { continue };
+            inputs.add(&patch);
+            if patch.points.len() == MAX_POINTS && patch.rows.len() == MAX_ROWS {
+                inputs.full_blocks.push(block);
+            }
+        }
+        inputs
+    }
+
+    fn add(&mut self, patch: &Patch) {
+        let corners = patch.rows.iter().map(|row| flat(patch.corners(row)));
+        let corners: Vec<[u8; 12]> = corners.collect();
+        let mut upright: Vec<Fraction> = corners.iter().filter_map(upright_quality).collect();
+        self.corners.extend(corners);
+        self.fractions.extend(&upright);
+        self.pairs.extend(neighbours(&upright));
+        upright.sort_by(|x, y| product(x.0, y.1).cmp(&product(y.0, x.1)));
+        self.close_pairs.extend(neighbours(&upright));
+    }
+}
+
+fn block_of(case: Case) -> Option<Vec<u8>> {
+    match case.call {
+        Call::Remove { block, .. } | Call::Page { block, .. } => Some(block),
+        _ => None,
+    }
+}
+
+fn flat(corners: [[u8; 3]; 4]) -> [u8; 12] {
+    let mut bytes = [0; 12];
+    bytes.copy_from_slice(corners.as_flattened());
+    bytes
+}
+
+fn upright_quality(corners: &[u8; 12]) -> Option<Fraction> {
+    let mut parts = [0; 3];
+    quick::quality(corners, &mut parts);
+    (parts[0] == 0).then_some((parts[1], parts[2]))
+}
+
+fn product(a: u64, b: u64) -> u128 {
+    u128::from(a) * u128::from(b)
+}
+
+fn neighbours(fractions: &[Fraction]) -> impl Iterator<Item = [Fraction; 2]> + '_ {
+    fractions.windows(2).map(|pair| [pair[0], pair[1]])
+}
