@@ -9,3 +9,5 @@ pub mod Evenly
 pub mod Places
 pub mod Alike
 pub mod OneWay
+pub mod Measured
+pub mod Regions

@@ -1,23 +1,27 @@
 -- The three demands, word for word, and what they say of the definitions of the calls.
 use Prim.Native.Nat.{ℕ, _+_, _-_, _≤_, min, max}
 use mathlib.Core.Bool.{Bool, not}
-use mathlib.Core.List.{List, [], _∷_, _++_, List·Memᴰ}
-use mathlib.Core.Logic.{_⊎_, _↔_}
+use mathlib.Core.List.{List, [], _∷_, _++_, map, List·Memᴰ}
+use mathlib.Core.Logic.{_↔_}
 use mathlib.Core.Path.{_≡_}
 use lib.Dec.{T}
 use lib.ListN.{length}
-use Rattle.lists.specs.Lists.{every, has, those}
+use Rattle.lists.specs.Lists.{any, has, those}
 use Rattle.measure.specs.Measure.{worse}
+use Rattle.measure.specs.Page.{shown, pageRow}
 use Rattle.mesh.specs.declared.Row.{Row}
-use Rattle.mesh.specs.Mesh.{MeshRule, rowQuality, totalD}
+use Rattle.mesh.specs.Mesh.{MeshRule, numbers, rowQuality, totalD}
 use Rattle.mesh.specs.Tetrahedra.{SameTetrahedra}
 use Rattle.block.specs.Layout.{Patch, blockBytes, maxRows, fieldsOf, bytesOf}
-use Rattle.block.specs.Within.{isByte, Kept}
+use Rattle.block.specs.Within.{Kept}
 use Rattle.block.specs.Answers.{openAnswer, openGives, numberOf, sealAnswer, sealBytes}
-use Rattle.ring.specs.Ring.{Site, siteOf, m, minRing, maxRing, holdsEdge}
+use Rattle.ring.specs.Ring.{Site, siteOf, m, minRing, maxRing, holdsEdge, ringWith}
 use Rattle.pieces.specs.Triangulation.{Tri, span, newRows, rowsAfter, tableAfter}
 use Rattle.pieces.specs.Admissible.{admissible}
 use Rattle.pieces.specs.Best.{worstOfWay, chosen}
+use Rattle.tally.specs.Summing.{summaryOf, worstOfPatch}
+use Rattle.patch.specs.declared.Summarised.the-variants.{Summary as Summed}
+use Rattle.patch.specs.declared.Removal.the-variants.{Done}
 use Rattle.patch.specs.Summing.{summaryGives, summaryNumber}
 use Rattle.patch.specs.Removing.{worstNow, removeAnswer, removeBytes, removeGives, removalNumber, Sound}
 use Rattle.patch.specs.Flipping.{flip32Answer, flip32Bytes, holdsFace, pairOf, threeRows, flip23Answer, flip23Bytes}
@@ -75,25 +79,26 @@ pub record Accepted (block output : List ℕ) (goes : Row → Bool) (new : List 
   pub rule : MeshRule (length (fieldsOf output .points)) (fieldsOf output .rows)
   pub volume : totalD (fieldsOf output .points) (fieldsOf output .rows) ≡ totalD (fieldsOf block .points) (fieldsOf block .rows)
 
--- what a slice of bytes holds
-abbrev pub Bytes : List ℕ → Type 0
-Bytes block = T (every isByte block)
-
--- Answer 0 of each call that writes, and the round trips.
+-- Answer 0 of each call that writes, the round trips, and what beside the bytes is given: the summary, and the page row with the ring.
 pub record Demand2 : Type 0 where
-  pub remove : (block out : List ℕ) (e f : ℕ) → Bytes block → removeAnswer block out e f ≡ 0
+  pub remove : (block out : List ℕ) (e f : ℕ) → removeAnswer block out e f ≡ 0
       → let site = siteOf (fieldsOf block) e f in
       Accepted block (removeBytes block out e f) (holdsEdge (min e f) (max e f)) (newRows site 1 (chosen site))
-  pub flip32 : (block out : List ℕ) (e f : ℕ) → Bytes block → flip32Answer block out e f ≡ 0
+  pub flip32 : (block out : List ℕ) (e f : ℕ) → flip32Answer block out e f ≡ 0
       → let site = siteOf (fieldsOf block) e f in
       Accepted block (flip32Bytes block out e f) (holdsEdge (min e f) (max e f)) (newRows site 1 (chosen site))
-  pub flip23 : (block out : List ℕ) (x y z : ℕ) → Bytes block → flip23Answer block out x y z ≡ 0
+  pub flip23 : (block out : List ℕ) (x y z : ℕ) → flip23Answer block out x y z ≡ 0
       → let face = x ∷ y ∷ z ∷ [] in
       Accepted block (flip23Bytes block out x y z) (holdsFace face) (threeRows (pairOf (fieldsOf block) face) face)
-  pub seal : (body out : List ℕ) → Bytes body → sealAnswer body out ≡ 0
+  pub seal : (body out : List ℕ) → sealAnswer body out ≡ 0
       → (openAnswer (sealBytes body out) ≡ 0) × (fieldsOf (sealBytes body out) ≡ fieldsOf body)
-  pub written-read : (block : List ℕ) → Bytes block → openAnswer block ≡ 0 → bytesOf (fieldsOf block) ≡ block
+  pub written-read : (block : List ℕ) → openAnswer block ≡ 0 → bytesOf (fieldsOf block) ≡ block
   pub read-written : (patch : Patch) → Kept patch → (openAnswer (bytesOf patch) ≡ 0) × (fieldsOf (bytesOf patch) ≡ patch)
+  pub summary : (block : List ℕ) → openAnswer block ≡ 0 → summaryGives block ≡ Summed (summaryOf (fieldsOf block))
+  pub page : (block out : List ℕ) (e f : ℕ) → removeAnswer block out e f ≡ 0
+      → let before = worstOfPatch (fieldsOf block) in
+      let after = worstOfPatch (fieldsOf (removeBytes block out e f)) in
+      removeGives block out e f ≡ record { removal = Done (pageRow (shown before) (shown after)); ring = ringWith (siteOf (fieldsOf block) e f .ring) }
 
 -- ---- Demand 3
 -- "Take a valid block, an output block of the right length and an edge whose tetrahedra form one closed ring of 3 to 10, with
@@ -121,11 +126,76 @@ NoneBetter site =
     (t : Tri) → Way site t
     → (row : Row) × List·Memᴰ row (newRows site 1 t) × T (not (worse (worstNow site) (rowQuality (site .points) row)))
 
--- 16 exactly then; otherwise, 17 apart, the way written keeps the mesh rule and its worst is at least as good as each other's
+-- 16 exactly then; otherwise the way written keeps the mesh rule and its worst is at least as good as that of every other such way
+-- (17 is tested between the two, but the total of a ring cancels, so it never comes)
 pub record Demand3 (block out : List ℕ) (e f : ℕ) : Type 0 where
   pub none-better : (removeAnswer block out e f ≡ 16) ↔ NoneBetter (siteOf (fieldsOf block) e f)
-  pub otherwise : (NoneBetter (siteOf (fieldsOf block) e f) → ⊥) → (removeAnswer block out e f ≡ 0) ⊎ (removeAnswer block out e f ≡ 17)
+  pub otherwise : (NoneBetter (siteOf (fieldsOf block) e f) → ⊥) → removeAnswer block out e f ≡ 0
   pub carried-out : removeAnswer block out e f ≡ 0
       → let site = siteOf (fieldsOf block) e f in
       (t : Tri) × Way site t × (fieldsOf (removeBytes block out e f) .rows ≡ tableAfter site t)
       × ((u : Tri) → Way site u → T (not (worse (worstOfWay site 1 t) (worstOfWay site 1 u))))
+
+-- ---- Orders
+-- "The edge's two ends are put in order, a < b; either order given has the same answer."
+
+-- A removal and a 3-2 flip are the same for both orders of the ends, and a 2-3 flip for all six orders of its face:
+-- exchanging the first two numbers and turning the three round make up the six.
+pub record EitherOrder : Type 0 where
+  pub remove-answer : (block out : List ℕ) (e f : ℕ) → removeAnswer block out e f ≡ removeAnswer block out f e
+  pub remove-bytes : (block out : List ℕ) (e f : ℕ) → removeBytes block out e f ≡ removeBytes block out f e
+  pub remove-gives : (block out : List ℕ) (e f : ℕ) → removeGives block out e f ≡ removeGives block out f e
+  pub flip32-answer : (block out : List ℕ) (e f : ℕ) → flip32Answer block out e f ≡ flip32Answer block out f e
+  pub flip32-bytes : (block out : List ℕ) (e f : ℕ) → flip32Bytes block out e f ≡ flip32Bytes block out f e
+  pub exchanged-answer : (block out : List ℕ) (x y z : ℕ) → flip23Answer block out x y z ≡ flip23Answer block out y x z
+  pub exchanged-bytes : (block out : List ℕ) (x y z : ℕ) → flip23Bytes block out x y z ≡ flip23Bytes block out y x z
+  pub turned-answer : (block out : List ℕ) (x y z : ℕ) → flip23Answer block out x y z ≡ flip23Answer block out y z x
+  pub turned-bytes : (block out : List ℕ) (x y z : ℕ) → flip23Bytes block out x y z ≡ flip23Bytes block out y z x
+
+-- Two blocks that open, with the same points and the same tetrahedra, in another order of rows and evenly rearranged.
+pub record SameMesh (block other : List ℕ) : Type 0 where
+  pub opens : openAnswer block ≡ 0
+  pub other-opens : openAnswer other ≡ 0
+  pub points : fieldsOf block .points ≡ fieldsOf other .points
+  pub tetrahedra : SameTetrahedra (fieldsOf block .rows) (fieldsOf other .rows)
+
+-- The answers are the same, and with two different ends so are the ring and the four numbers of each new row; the kept rows are the
+-- same tetrahedra. Only their order and arrangement, and the region of the first removed row in the table, go by the table.
+pub record AnyRowOrder (block other out : List ℕ) (e f : ℕ) : Type 0 where
+  pub remove-answer : removeAnswer block out e f ≡ removeAnswer other out e f
+  pub flip32-answer : flip32Answer block out e f ≡ flip32Answer other out e f
+  pub ring : (e ≡ f → ⊥) → siteOf (fieldsOf block) e f .ring ≡ siteOf (fieldsOf other) e f .ring
+  pub kept : SameTetrahedra (siteOf (fieldsOf block) e f .kept) (siteOf (fieldsOf other) e f .kept)
+  pub new-rows : (e ≡ f → ⊥)
+      → let site = siteOf (fieldsOf block) e f in
+      let its = siteOf (fieldsOf other) e f in
+      map numbers (newRows site 1 (chosen site)) ≡ map numbers (newRows its 1 (chosen its))
+
+-- The same of a 2-3 flip.
+pub record AnyRowOrder23 (block other out : List ℕ) (x y z : ℕ) : Type 0 where
+  pub answer : flip23Answer block out x y z ≡ flip23Answer other out x y z
+  pub kept : let face = x ∷ y ∷ z ∷ [] in
+      SameTetrahedra (pairOf (fieldsOf block) face .kept) (pairOf (fieldsOf other) face .kept)
+  pub new-rows : flip23Answer block out x y z ≡ 0
+      → let face = x ∷ y ∷ z ∷ [] in
+      map numbers (threeRows (pairOf (fieldsOf block) face) face) ≡ map numbers (threeRows (pairOf (fieldsOf other) face) face)
+
+-- ---- 3-2 after 2-3
+-- "If the two rows have one region and no row held both a and b, the 3-2 flip of (a,b) brings back the same two tetrahedra,
+-- up to even rearrangement and row order."
+
+-- The premises: a 2-3 flip was done, and an output block of the right length.
+pub record Flipped (block out other : List ℕ) (x y z : ℕ) : Type 0 where
+  pub done : flip23Answer block out x y z ≡ 0
+  pub right-length : length other ≡ blockBytes
+  pub one-region : let pair = pairOf (fieldsOf block) (x ∷ y ∷ z ∷ []) in
+      (s t : Row) → List·Memᴰ s (pair .removed) → List·Memᴰ t (pair .removed) → s .region ≡ t .region
+  pub none-held : let pair = pairOf (fieldsOf block) (x ∷ y ∷ z ∷ []) in
+      T (not (any (holdsEdge (pair .a) (pair .b)) (fieldsOf block .rows)))
+
+-- The 3-2 flip of (a,b) is done, and the table has the tetrahedra that it had before both flips.
+pub record BroughtBack (block out other : List ℕ) (x y z : ℕ) : Type 0 where
+  pub answer : let pair = pairOf (fieldsOf block) (x ∷ y ∷ z ∷ []) in
+      flip32Answer (flip23Bytes block out x y z) other (pair .a) (pair .b) ≡ 0
+  pub tetrahedra : let pair = pairOf (fieldsOf block) (x ∷ y ∷ z ∷ []) in
+      SameTetrahedra (fieldsOf (flip32Bytes (flip23Bytes block out x y z) other (pair .a) (pair .b)) .rows) (fieldsOf block .rows)

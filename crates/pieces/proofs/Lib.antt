@@ -11,3 +11,7 @@ pub mod Chosen
 pub mod Leading
 pub mod Recurrence
 pub mod Total
+pub mod Volume
+pub mod Rings
+pub mod Across
+pub mod Kindred

@@ -8,3 +8,4 @@ pub mod Closing
 pub mod Sites
 pub mod Finding
 pub mod Order
+pub mod Sounding

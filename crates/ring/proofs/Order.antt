@@ -132,7 +132,7 @@ module _ (ls ks : List Link) (once : T (different (starts ls))) (once' : T (diff
 -- ---- the order and the arrangement of the rows
 
 -- a row of one table stands in the other, evenly rearranged
-row-across : (rows others : List Row) (row : Row) → SameTetrahedra rows others → List·Memᴰ row rows
+pub row-across : (rows others : List Row) (row : Row) → SameTetrahedra rows others → List·Memᴰ row rows
     → (u : Row) × List·Memᴰ u others × T (rearranged row u)
 row-across rows others row same m =
     let one = count-member (rearranged row) rows m (even-refl row) in

@@ -1,0 +1,226 @@
+-- Law 19: a 3-2 flip after a 2-3 flip brings back the same two tetrahedra, if the two rows have one region and no row held both apexes.
+-- The three rows are a ring of three with one way to triangulate it, and its two rows are the two that went, evenly rearranged.
+use Prim.Native.Nat.{ℕ, _≤_}
+use mathlib.Core.Bool.{Bool, not}
+use mathlib.Core.List.{List, [], _∷_, _++_, List·Memᴰ, List·Memᴰ·head, List·Memᴰ·tail, List·Memᴰ·not-nil}
+use mathlib.Core.Logic.{_⊎_, inl, inr}
+use mathlib.Core.Path.{_≡_, refl, sym, ap, _∙_, subst}
+use native.Mathlib.Omega.{arith}
+use borrow.Author.Tests.{eq-eqb}
+use lib.Dec.{T, T-not, not-T}
+use lib.ListN.{length}
+use Rattle.lists.specs.Lists.{every, any, those}
+use Rattle.lists.proofs.Lists.{any-i, every-i, those-e}
+use Rattle.lists.proofs.Counts.{count-append, count-split}
+use Rattle.measure.specs.declared.Point.{Point}
+use Rattle.mesh.specs.declared.Row.{Row}
+use Rattle.mesh.specs.Mesh.{keepsMeshRule}
+use Rattle.mesh.specs.Tetrahedra.{rearranged, SameTetrahedra}
+use Rattle.mesh.proofs.Alike.{same-keeps, same-cons, same-append, same-swap}
+use Rattle.mesh.proofs.Evenly.{even-region}
+use Rattle.block.specs.Layout.{Patch, blockBytes, fieldsOf}
+use Rattle.block.specs.Answers.{firstRefusal}
+use Rattle.ring.specs.Ring.{Site, siteOf, m, holdsEdge}
+use Rattle.ring.proofs.Rounding.{smallest-le}
+use Rattle.pieces.specs.Triangulation.{side, cut, span, regionOf, tableAfter}
+use Rattle.pieces.specs.Admissible.{admissible}
+use Rattle.pieces.specs.Best.{chosen}
+use Rattle.patch.specs.Removing.{Sound}
+use Rattle.patch.specs.Flipping.{flip32Tests, flip32Answer, flip32Bytes, holdsFace, Pair, pairOf, threeRows, patchAfter23, flip23Answer, flip23Bytes}
+use Rattle.patch.specs.Demands.{Way, Flipped, BroughtBack}
+use Rattle.patch.proofs.Answering.{flips-23, flip32-left}
+use Rattle.patch.proofs.Sites.{opens-rule}
+use Rattle.patch.proofs.Third.{way-there, site-chosen}
+use Rattle.patch.proofs.Facing.{Facing}
+use Rattle.patch.proofs.Second.{flips-facing, flip23-accepted, flip32-accepted}
+use Rattle.patch.proofs.Threes.{rowsRound, ring-three, three-pass, three-table, one-tree}
+
+-- a table is what goes and what stays
+same-parts : (p : Row → Bool) (rows : List Row) → SameTetrahedra (those (λ row. not (p row)) rows ++ those p rows) rows
+same-parts p rows row =
+    let parts = count-split (rearranged row) p rows in
+    omega (arith, count-append (rearranged row) (those (λ row. not (p row)) rows) (those p rows))
+
+-- two rows in either order
+same-two : (x y : Row) → SameTetrahedra (x ∷ y ∷ []) (y ∷ x ∷ [])
+same-two x y = same-swap (x ∷ []) (y ∷ [])
+
+-- the two rows of the triangle are the two that went
+module _ {count : ℕ} {pair : Pair} {face : List ℕ} (f : Facing count pair face) (one-region : (s t : Row) → List·Memᴰ s (pair .removed) → List·Memᴰ t (pair .removed) → s .region ≡ t .region) where
+  -- both have the region of the first
+  region-is : (row : Row) → List·Memᴰ row (pair .removed) → regionOf (pair .removed) ≡ row .region
+  region-is row k = go (pair .removed) one-region k
+    where
+      go : (rows : List Row) → ((s t : Row) → List·Memᴰ s rows → List·Memᴰ t rows → s .region ≡ t .region) → List·Memᴰ row rows → regionOf rows ≡ row .region
+      go [] same k = absurd (List·Memᴰ·not-nil k)
+      go (first ∷ rows) same k = same first row (List·Memᴰ·head refl) k
+
+  abbrev two : List Row
+  two =
+      record { p = pair .a; q = f .t .q; r = f .t .r; s = f .t .s; region = regionOf (pair .removed) }
+      ∷ record { p = f .t .q; q = f .t .r; r = f .t .s; s = pair .b; region = regionOf (pair .removed) } ∷ []
+
+  members : List·Memᴰ (f .rowA) (pair .removed) × List·Memᴰ (f .rowB) (pair .removed)
+  members = go (f .order)
+    where
+      go : (pair .removed ≡ f .rowA ∷ f .rowB ∷ []) ⊎ (pair .removed ≡ f .rowB ∷ f .rowA ∷ []) → List·Memᴰ (f .rowA) (pair .removed) × List·Memᴰ (f .rowB) (pair .removed)
+      go (inl e) = rw e (List·Memᴰ·head refl, List·Memᴰ·tail (List·Memᴰ·head refl))
+      go (inr e) = rw e (List·Memᴰ·tail (List·Memᴰ·head refl), List·Memᴰ·head refl)
+
+  even-a : T (rearranged (record { p = pair .a; q = f .t .q; r = f .t .r; s = f .t .s; region = regionOf (pair .removed) }) (f .rowA))
+  even-a = subst (λ (row : Row). T (rearranged row (f .rowA))) t-is (f .a-row .even)
+    where
+      t-is : f .t ≡ record { p = pair .a; q = f .t .q; r = f .t .r; s = f .t .s; region = regionOf (pair .removed) }
+      t-is = rw (← (f .at-a), region-is (f .rowA) (members .0), ← (even-region (f .t) (f .rowA) (f .a-row .even)))
+
+  even-b : T (rearranged (record { p = f .t .q; q = f .t .r; r = f .t .s; s = pair .b; region = regionOf (pair .removed) }) (f .rowB))
+  even-b = rw (region-is (f .rowB) (members .1)) (f .b-row)
+
+  both : SameTetrahedra two (f .rowA ∷ f .rowB ∷ [])
+  both = same-cons _ (f .rowA) _ (f .rowB ∷ []) even-a (same-cons _ (f .rowB) [] [] even-b (λ row. refl))
+
+  pub same-pair : SameTetrahedra two (pair .removed)
+  same-pair = go (f .order)
+    where
+      go : (pair .removed ≡ f .rowA ∷ f .rowB ∷ []) ⊎ (pair .removed ≡ f .rowB ∷ f .rowA ∷ []) → SameTetrahedra two (pair .removed)
+      go (inl e) = subst (SameTetrahedra two) (sym e) both
+      go (inr e) = subst (SameTetrahedra two) (sym e) (λ row. both row ∙ same-two (f .rowA) (f .rowB) row)
+
+-- ---- the two flips
+
+module _ (block out other : List ℕ) (x y z : ℕ) (done : flip23Answer block out x y z ≡ 0) (size : length other ≡ blockBytes) where
+  abbrev face : List ℕ
+  face = x ∷ y ∷ z ∷ []
+
+  abbrev patch : Patch
+  patch = fieldsOf block
+
+  abbrev pair : Pair
+  pair = pairOf patch face
+
+  -- the block between the two flips
+  abbrev between : List ℕ
+  between = flip23Bytes block out x y z
+
+  f : Facing (length (patch .points)) pair face
+  f = flips-facing block out x y z (flips-23 block out x y z done)
+
+  abbrev t : Row
+  t = f .t
+
+  -- its three rows are a ring round a, b
+  abbrev round : List Row
+  round = rowsRound (pair .a) (pair .b) (t .q) (t .r) (t .s) (regionOf (pair .removed))
+
+  abbrev middle : Patch
+  middle = record { points = patch .points; rows = pair .kept ++ round }
+
+  three-are : threeRows pair face ≡ round
+  unfolding threeRows
+  three-are = rw (f .t-is)
+
+  after-is : patchAfter23 patch face ≡ middle
+  unfolding patchAfter23
+  after-is = rw three-are
+
+  fields-between : fieldsOf between ≡ middle
+  unfolding patchAfter23 pairOf
+  fields-between =
+      let made = flip23-accepted block out x y z done in
+      patch-is (fieldsOf between) (made .points) (made .rows ∙ ap (λ new. pair .kept ++ new) three-are)
+    where
+      patch-is : (patch : Patch) {points : List Point} {rows : List Row} → patch .points ≡ points → patch .rows ≡ rows
+          → patch ≡ record { points = points; rows = rows }
+      patch-is patch p r = rw (← p, ← r)
+
+  rule : T (keepsMeshRule (length (patch .points)) (pair .kept ++ round))
+  rule = subst (λ (after : Patch). T (keepsMeshRule (length (patch .points)) (after .rows))) after-is (flips-23 block out x y z done .rule)
+
+  least : (n : ℕ) → List·Memᴰ n (t .q ∷ t .r ∷ t .s ∷ []) → t .q ≤ n
+  least n k = rw (f .a-row .at-u) (smallest-le face (f .a-row .outside k))
+
+  module _ (no-row : T (not (any (holdsEdge (pair .a) (pair .b)) (patch .rows)))) where
+    none-kept : T (every (λ row. not (holdsEdge (pair .a) (pair .b) row)) (pair .kept))
+    unfolding pairOf
+    none-kept = every-i (λ row. not (holdsEdge (pair .a) (pair .b) row)) (pair .kept) (λ row k.
+        let (i, h) = those-e (λ row. not (holdsFace face row)) (patch .rows) k in
+        not-T (holdsEdge (pair .a) (pair .b) row) (λ held. T-not (any (holdsEdge (pair .a) (pair .b)) (patch .rows)) no-row (any-i (holdsEdge (pair .a) (pair .b)) (patch .rows) i held)))
+
+    low-r : t .q ≤ t .r
+    low-r = least (t .r) (List·Memᴰ·tail (List·Memᴰ·head refl))
+
+    low-s : t .q ≤ t .s
+    low-s = least (t .s) (List·Memᴰ·tail (List·Memᴰ·tail (List·Memᴰ·head refl)))
+
+    abbrev site : Site
+    site = siteOf (fieldsOf between) (pair .a) (pair .b)
+
+    site-is : site ≡ siteOf middle (pair .a) (pair .b)
+    site-is = ap (λ patch. siteOf patch (pair .a) (pair .b)) fields-between
+
+    sound : Sound between (pair .a) (pair .b)
+    sound = record {
+      opens = flip23-accepted block out x y z done .opens;
+      closed =
+          rw site-is
+          (three-pass (patch .points) (pair .kept) (pair .a) (pair .b) (t .q) (t .r) (t .s) (regionOf (pair .removed)) (f .less) low-r low-s rule none-kept);
+    }
+
+    ring-is : site .ring ≡ t .q ∷ t .r ∷ t .s ∷ []
+    ring-is =
+        ap (λ (s : Site). s .ring) site-is
+        ∙ ring-three (patch .points) (pair .kept) (pair .a) (pair .b) (t .q) (t .r) (t .s) (regionOf (pair .removed)) (f .less) low-r low-s rule none-kept
+
+    three : m site ≡ 3
+    three = rw ring-is
+
+    module _ (one-region : (s t : Row) → List·Memᴰ s (pair .removed) → List·Memᴰ t (pair .removed) → s .region ≡ t .region) where
+      table-is : tableAfter site (cut side side) ≡ pair .kept ++ two f one-region
+      table-is =
+          ap (λ s. tableAfter s (cut side side)) site-is
+          ∙ three-table (patch .points) (pair .kept) (pair .a) (pair .b) (t .q) (t .r) (t .s) (regionOf (pair .removed)) (f .less) low-r low-s rule none-kept
+
+      -- the table with the two rows has the tetrahedra of the first
+      same-table : SameTetrahedra (tableAfter site (cut side side)) (patch .rows)
+      unfolding pairOf
+      same-table = rw table-is (λ row.
+          same-append (pair .kept) (pair .kept) (two f one-region) (pair .removed) (λ row. refl) (same-pair f one-region) row
+          ∙ same-parts (holdsFace face) (patch .rows) row)
+
+      same-points : site .points ≡ patch .points
+      unfolding siteOf
+      same-points = ap (λ (patch : Patch). patch .points) fields-between
+
+      the-way : Way site (cut side side)
+      unfolding span admissible
+      the-way = (
+        rw three refl,
+        rw (same-keeps (length (site .points)) (tableAfter site (cut side side)) (patch .rows) same-table, same-points)
+            (opens-rule block (flips-23 block out x y z done .opens)),
+      )
+
+      -- answer 0
+      back-answer : flip32Answer between other (pair .a) (pair .b) ≡ 0
+      unfolding flip32Tests firstRefusal
+      back-answer =
+          flip32-left between other (pair .a) (pair .b) sound size
+          ∙ rw (eq-eqb (m site) 3 three, way-there between (pair .a) (pair .b) sound (omega (arith, three)) (cut side side) the-way)
+
+      chosen-is : chosen site ≡ cut side side
+      chosen-is =
+          let best = site-chosen between (pair .a) (pair .b) sound (omega (arith, three)) (cut side side) the-way in
+          one-tree (chosen site) (omega (arith, three, best .way .spans))
+
+      -- and the same tetrahedra
+      back-rows : SameTetrahedra (fieldsOf (flip32Bytes between other (pair .a) (pair .b)) .rows) (patch .rows)
+      unfolding tableAfter siteOf
+      back-rows =
+          let made = flip32-accepted between other (pair .a) (pair .b) back-answer in
+          let rows : fieldsOf (flip32Bytes between other (pair .a) (pair .b)) .rows ≡ tableAfter site (cut side side) = made .rows ∙ ap (tableAfter site) chosen-is in
+          rw rows same-table
+
+pub brought-back : (block out other : List ℕ) (x y z : ℕ) → Flipped block out other x y z → BroughtBack block out other x y z
+brought-back block out other x y z given = record {
+  answer = back-answer block out other x y z (given .done) (given .right-length) (given .none-held) (given .one-region);
+  tetrahedra = back-rows block out other x y z (given .done) (given .right-length) (given .none-held) (given .one-region);
+}

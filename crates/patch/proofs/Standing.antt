@@ -1,0 +1,121 @@
+-- Law 22: what stands in where a list is empty never binds where it is met, and the printed `after` is the summary of the written block.
+use Prim.Native.Nat.{ℕ, _<_, min, max}
+use mathlib.Core.List.{List, [], _∷_, map}
+use mathlib.Core.Option.{some, Option·getD}
+use mathlib.Core.Path.{_≡_, refl, ap, _∙_}
+use native.Mathlib.Omega.{arith}
+use lib.ListN.{length, getD}
+use Rattle.lists.proofs.Lists.{those-split}
+use Rattle.measure.specs.declared.Point.{Point}
+use Rattle.measure.specs.declared.Quality.{Quality}
+use Rattle.measure.specs.Measure.{worst, zeroQuality}
+use Rattle.measure.specs.Page.{shown, pageRow}
+use Rattle.mesh.specs.declared.Row.{Row}
+use Rattle.mesh.specs.Mesh.{rowQuality}
+use Rattle.lists.proofs.Places.{getD-inside}
+use Rattle.block.specs.Layout.{Patch, fieldsOf}
+use Rattle.block.specs.Answers.{openAnswer}
+use Rattle.block.proofs.Trip.{read-written, written-read, opens-written, seal-opens}
+use Rattle.ring.specs.Ring.{Site, siteOf, holdsEdge, ringWith}
+use Rattle.pieces.specs.Triangulation.{regionOf, tableAfter}
+use Rattle.pieces.specs.Best.{chosen}
+use Rattle.pieces.proofs.Rings.{after-length}
+use Rattle.tally.specs.Summing.{qualities, summaryOf, worstOfPatch}
+use Rattle.patch.specs.declared.Removal.the-variants.{Done}
+use Rattle.patch.specs.declared.Summarised.the-variants.{Summary as Summed}
+use Rattle.patch.specs.Summing.{summaryGives}
+use Rattle.patch.specs.Removing.{worstNow, patchAfter, removeAnswer, removeBytes, removeGives, Sound}
+use Rattle.patch.specs.Demands.{Demand2}
+use Rattle.patch.proofs.Answering.{removes}
+use Rattle.patch.proofs.Sites.{some-removed}
+use Rattle.patch.proofs.Third.{length-fits, some-way, site-chosen}
+use Rattle.patch.proofs.First.{gives-done}
+use Rattle.patch.proofs.Second.{remove-accepted, flip32-accepted, flip23-accepted}
+
+-- ---- the summary
+
+-- a block that opens has its patch's summary
+pub summary-opened : (block : List ℕ) → openAnswer block ≡ 0 → summaryGives block ≡ Summed (summaryOf (fieldsOf block))
+unfolding summaryGives
+summary-opened block e = rw (e, summaryGives)
+
+-- ---- rows that are there
+
+-- of some qualities there is a worst
+worst-some : (f : Row → Quality) (rows : List Row) → 0 < length rows → worst (map f rows) ≡ some (Option·getD (worst (map f rows)) zeroQuality)
+unfolding worst
+worst-some f [] h = absurd (omega arith)
+worst-some f (row ∷ rows) h = refl
+
+module _ (block : List ℕ) (e f : ℕ) (sound : Sound block e f) where
+  abbrev site : Site
+  site = siteOf (fieldsOf block) e f
+
+  -- the worst tetrahedron round the edge now is one of the removed rows'
+  pub worst-now : worst (map (rowQuality (site .points)) (site .removed)) ≡ some (worstNow site)
+  unfolding worstNow
+  worst-now = worst-some (rowQuality (site .points)) (site .removed) (some-removed block e f sound)
+
+  -- the region is that of the first removed row, whatever would stand in for it
+  pub first-region : (other : Row) → regionOf (site .removed) ≡ getD (site .removed) 0 other .region
+  first-region other = ap (λ (row : Row). row .region) (getD-inside (site .removed) 0 _ other (some-removed block e f sound))
+
+  -- the patch has rows, so it has a worst one
+  pub some-row : 0 < length (fieldsOf block .rows)
+  unfolding siteOf
+  some-row = omega (arith, some-removed block e f sound, those-split (holdsEdge (min e f) (max e f)) (fieldsOf block .rows))
+
+  pub worst-before : worst (qualities (fieldsOf block)) ≡ some (worstOfPatch (fieldsOf block))
+  worst-before = worst-some (rowQuality (fieldsOf block .points)) (fieldsOf block .rows) some-row
+
+-- ---- what is written
+
+module _ (block out : List ℕ) (e f : ℕ) (done : removeAnswer block out e f ≡ 0) where
+  abbrev its : Site
+  its = siteOf (fieldsOf block) e f
+
+  -- the written block holds the patch afterwards
+  pub fields-after : fieldsOf (removeBytes block out e f) ≡ patchAfter its
+  unfolding patchAfter siteOf tableAfter
+  fields-after =
+      let made = remove-accepted block out e f done in
+      patch-is (fieldsOf (removeBytes block out e f)) (made .points) (made .rows)
+    where
+      patch-is : (patch : Patch) {points : List Point} {rows : List Row} → patch .points ≡ points → patch .rows ≡ rows
+          → patch ≡ record { points = points; rows = rows }
+      patch-is patch p r = rw (← p, ← r)
+
+  -- it opens, and its summary is that of the patch afterwards
+  pub summary-after : summaryGives (removeBytes block out e f) ≡ Summed (summaryOf (patchAfter its))
+  summary-after =
+      summary-opened (removeBytes block out e f) (remove-accepted block out e f done .opens) ∙ ap (λ patch. Summed (summaryOf patch)) fields-after
+
+  -- there are new rows, so the patch afterwards has a worst row
+  pub worst-after : worst (qualities (patchAfter its)) ≡ some (worstOfPatch (patchAfter its))
+  unfolding patchAfter
+  worst-after =
+      let r = removes block out e f done in
+      let three = length-fits its (r .length-right) .0 in
+      let (t, w) = some-way block e f (r .sound) three (r .way) in
+      let best = site-chosen block e f (r .sound) three t w in
+      worst-some (rowQuality (its .points)) (tableAfter its (chosen its)) (omega (arith, after-length its (chosen its) (best .way .spans)))
+
+-- ---- the second demand, with what is given beside the bytes
+
+page-given : (block out : List ℕ) (e f : ℕ) → removeAnswer block out e f ≡ 0
+    → let before = worstOfPatch (fieldsOf block) in
+    let after = worstOfPatch (fieldsOf (removeBytes block out e f)) in
+    removeGives block out e f ≡ record { removal = Done (pageRow (shown before) (shown after)); ring = ringWith (siteOf (fieldsOf block) e f .ring) }
+page-given block out e f done = rw (fields-after block out e f done) (gives-done block out e f done)
+
+pub demand-2 : Demand2
+demand-2 = record {
+  remove = remove-accepted;
+  flip32 = flip32-accepted;
+  flip23 = flip23-accepted;
+  seal = seal-opens;
+  written-read = written-read;
+  read-written = λ patch kept. (opens-written patch kept, read-written patch (kept .within));
+  summary = summary-opened;
+  page = page-given;
+}

@@ -1,0 +1,231 @@
+-- Three rows (a,b,u,v), (a,b,v,w), (a,b,w,u) and no other that holds a and b: the ring is u, v, w, and no answer from 9 to 13 is given.
+use Prim.Native.Nat.{ℕ, _<_, _≤_, min, max}
+use mathlib.Core.Bool.{Bool, true, false, not}
+use mathlib.Core.List.{List, [], _∷_, _++_, map, flatMap, List·Memᴰ, List·Memᴰ·head, List·Memᴰ·tail, List·Memᴰ·not-nil, Memᴰ·append-right, append-nil}
+use mathlib.Core.Option.{some}
+use mathlib.Core.Path.{_≡_, refl, sym, ap, _∙_}
+use native.Mathlib.Omega.{arith}
+use borrow.Author.Tests.{lt-ltb, ne-eqb}
+use lib.Dec.{T}
+use lib.ListN.{length}
+use Rattle.lists.specs.Lists.{every, any, those, has, different}
+use Rattle.lists.proofs.Tests.{and-l, and-r, and-i, yes-is, no-is}
+use Rattle.lists.proofs.Lists.{every-at, every-i, those-append, every-cons}
+use Rattle.lists.proofs.Numbers.{has-i}
+use Rattle.lists.proofs.Places.{in-cases}
+use Rattle.measure.specs.declared.Point.{Point}
+use Rattle.mesh.specs.declared.Row.{Row}
+use Rattle.mesh.specs.Mesh.{numbersFit, keepsMeshRule, Proper}
+use Rattle.mesh.proofs.Places.{even-refl}
+use Rattle.mesh.proofs.Rule.{fit-proper, keeps-fits}
+use Rattle.block.specs.Layout.{Patch}
+use Rattle.block.specs.Answers.{firstRefusal}
+use Rattle.ring.specs.Ring.{Link, holdsEdge, link, next, closes, starts, ringOf, Site, siteOf, numbersWrong, linkOpen, manyCircles, edgeTests}
+use Rattle.ring.proofs.Linking.{link-is}
+use Rattle.ring.proofs.Walking.{Walks, last, more, next-is, walks-walk}
+use Rattle.ring.proofs.Closing.{closes-i}
+use Rattle.ring.proofs.Rounding.{smallest-is}
+use Rattle.pieces.specs.Triangulation.{Tri, side, cut, span, triangles, twoRows, newRows, tableAfter}
+use Rattle.pieces.proofs.Ways.{span-over}
+use Rattle.patch.proofs.Orders.{ThreeApart, apart-three}
+
+-- ---- those that all pass, and those that none does
+
+module _ {A : Type 0} (p : A → Bool) where
+  those-all : (xs : List A) → T (every p xs) → those p xs ≡ xs
+  unfolding those every
+  those-all [] h = refl
+  those-all (x ∷ xs) h =
+      let e = yes-is (p x) (and-l (p x) (every p xs) h) in
+      rw (e, those-all xs (and-r (p x) (every p xs) h))
+
+  those-none : (xs : List A) → T (every (λ x. not (p x)) xs) → those p xs ≡ []
+  unfolding those every
+  those-none [] h = refl
+  those-none (x ∷ xs) h =
+      let e = no-is (p x) (and-l (not (p x)) (every (λ x. not (p x)) xs) h) in
+      rw e (those-none xs (and-r (not (p x)) (every (λ x. not (p x)) xs) h))
+
+-- ---- three links
+
+module _ (u v w : ℕ) (apart : ThreeApart u v w) where
+  abbrev links : List Link
+  links = (u, v) ∷ (v, w) ∷ (w, u) ∷ []
+
+  once : T (different (starts links))
+  once = apart-three u v w apart
+
+  step-u : next links u ≡ some v
+  step-u = next-is links once (List·Memᴰ·head refl)
+
+  step-v : next links v ≡ some w
+  step-v = next-is links once (List·Memᴰ·tail (List·Memᴰ·head refl))
+
+  step-w : next links w ≡ some u
+  step-w = next-is links once (List·Memᴰ·tail (List·Memᴰ·tail (List·Memᴰ·head refl)))
+
+  walk-u : Walks links u u (u ∷ v ∷ w ∷ [])
+  walk-u = more step-u (λ e. apart .xy (sym e)) (more step-v (λ e. apart .xz (sym e)) (last step-w))
+
+  walk-v : Walks links v v (v ∷ w ∷ u ∷ [])
+  walk-v = more step-v (λ e. apart .yz (sym e)) (more step-w (apart .xy) (last step-u))
+
+  walk-w : Walks links w w (w ∷ u ∷ v ∷ [])
+  walk-w = more step-w (apart .xz) (more step-u (apart .yz) (last step-v))
+
+  -- they all close
+  three-close : T (every (closes links) (starts links))
+  three-close =
+      every-cons (closes links) u (v ∷ w ∷ []) (closes-i links u walk-u)
+      (every-cons (closes links) v (w ∷ []) (closes-i links v walk-v)
+      (every-cons (closes links) w [] (closes-i links w walk-w) tt'))
+    where
+      tt' : T (every (closes links) [])
+      tt' = every-i (closes links) [] (λ x k. absurd (List·Memᴰ·not-nil k))
+
+  -- in the ring u, v, w
+  three-ring : u ≤ v → u ≤ w → ringOf links ≡ u ∷ v ∷ w ∷ []
+  unfolding ringOf
+  three-ring uv uw =
+      let least = smallest-is (starts links) u (List·Memᴰ·head refl)
+      (λ k i. in-cases i (λ e. omega arith) λ i. in-cases i (λ e. omega arith) λ i. in-cases i (λ e. omega arith) λ i. absurd (List·Memᴰ·not-nil i)) in
+      rw (← least, walks-walk links u 3 walk-u (omega arith))
+
+-- ---- three rows
+
+-- (a,b,u,v), (a,b,v,w), (a,b,w,u)
+abbrev pub rowsRound : ℕ → ℕ → ℕ → ℕ → ℕ → ℕ → List Row
+rowsRound a b u v w region =
+    let row : ℕ → ℕ → Row = λ x y. record { p = a; q = b; r = x; s = y; region = region } in
+    row u v ∷ row v w ∷ row w u ∷ []
+
+module _ (points : List Point) (kept : List Row) (a b u v w region : ℕ) (order : a < b) (uv : u ≤ v) (uw : u ≤ w)
+    (rule : T (keepsMeshRule (length points) (kept ++ rowsRound a b u v w region)))
+    (none : T (every (λ row. not (holdsEdge a b row)) kept)) where
+  abbrev new : List Row
+  new = rowsRound a b u v w region
+
+  abbrev patch : Patch
+  patch = record { points = points; rows = kept ++ new }
+
+  abbrev site : Site
+  site = siteOf patch a b
+
+  new-proper : {row : Row} → List·Memᴰ row new → Proper (length points) row
+  new-proper {row} k =
+      fit-proper (length points) row
+      (every-at (numbersFit (length points)) (kept ++ new) (keeps-fits (length points) (kept ++ new) rule) (Memᴰ·append-right kept k))
+
+  points-apart : ThreeApart u v w
+  points-apart =
+      let one = new-proper (List·Memᴰ·head refl) in
+      let two = new-proper (List·Memᴰ·tail (List·Memᴰ·head refl)) in
+      let three = new-proper (List·Memᴰ·tail (List·Memᴰ·tail (List·Memᴰ·head refl))) in
+      record { xy = one .r-s; xz = λ e. three .r-s (sym e); yz = two .r-s }
+
+  new-hold : (row : Row) → List·Memᴰ row new → T (holdsEdge a b row)
+  new-hold row k =
+      in-cases k (both row)
+      λ k. in-cases k (both row) λ k. in-cases k (both row) λ k. absurd (List·Memᴰ·not-nil k)
+    where
+      both : (row : Row) {x y : ℕ} → row ≡ record { p = a; q = b; r = x; s = y; region = region } → T (holdsEdge a b row)
+      both row e =
+          rw e (and-i (has (a ∷ b ∷ _ ∷ _ ∷ []) a) (has (a ∷ b ∷ _ ∷ _ ∷ []) b) (has-i _ (List·Memᴰ·head refl)) (has-i _ (List·Memᴰ·tail (List·Memᴰ·head refl))))
+
+  min-is : min a b ≡ a
+  min-is = omega arith
+
+  max-is : max a b ≡ b
+  max-is = omega arith
+
+  -- the three rows go, the others are kept
+
+  pub three-removed : site .removed ≡ new
+  unfolding siteOf
+  three-removed =
+      rw (min-is, max-is)
+      (those-append (holdsEdge a b) kept new
+      ∙ rw (those-none (holdsEdge a b) kept none, those-all (holdsEdge a b) new (every-i (holdsEdge a b) new new-hold)))
+
+  pub three-kept : site .kept ≡ kept
+  unfolding siteOf
+  three-kept =
+      let stays : Row → Bool = λ row. not (holdsEdge a b row) in
+      rw (min-is, max-is)
+      (those-append stays kept new
+      ∙ rw (those-all stays kept none, those-none stays new (every-i (λ row. not (not (holdsEdge a b row))) new (λ row k. twice-not (holdsEdge a b row) (new-hold row k))))
+      (append-nil kept))
+    where
+      twice-not : (t : Bool) → T t → T (not (not t))
+      twice-not true h = tt
+      twice-not false h = absurd h
+
+  three-links : site .links ≡ links u v w points-apart
+  unfolding siteOf
+  three-links =
+      ap (map (link (min a b) (max a b))) three-removed
+      ∙ rw (min-is, max-is, of (List·Memᴰ·head refl), of (List·Memᴰ·tail (List·Memᴰ·head refl)), of (List·Memᴰ·tail (List·Memᴰ·tail (List·Memᴰ·head refl))))
+    where
+      of : {row : Row} → List·Memᴰ row new → link (row .p) (row .q) row ≡ (row .r, row .s)
+      of {row} k = link-is row row (new-proper k) (even-refl row)
+
+  pub ring-three : site .ring ≡ u ∷ v ∷ w ∷ []
+  unfolding siteOf
+  ring-three = ap ringOf three-links ∙ three-ring u v w points-apart uv uw
+
+  -- ---- no answer from 9 to 12
+
+  ends-right : numbersWrong (length points) (a ∷ b ∷ []) ≡ false
+  unfolding numbersWrong every different any
+  ends-right =
+      let one = new-proper (List·Memᴰ·head refl) in
+      rw (lt-ltb a (length points) (one .below-p), lt-ltb b (length points) (one .below-q), ne-eqb a b (one .p-q))
+
+  links-close : linkOpen site ≡ false
+  unfolding linkOpen
+  links-close =
+      let ls = links u v w points-apart in
+      rw (three-links, yes-is (every (closes ls) (starts ls)) (three-close u v w points-apart))
+
+  one-circle : manyCircles site ≡ false
+  unfolding manyCircles
+  one-circle =
+      let ls = links u v w points-apart in
+      let ring : List ℕ = u ∷ v ∷ w ∷ [] in
+      rw (three-links, ring-three, yes-is (every (has ring) (starts ls)) (every-i (has ring) ring (λ n k. has-i ring k)))
+
+  same-points : site .points ≡ points
+  unfolding siteOf
+  same-points = refl
+
+  pub three-pass : firstRefusal (edgeTests site a b) ≡ 0
+  unfolding edgeTests firstRefusal
+  three-pass = rw (links-close, one-circle, same-points, ends-right, three-removed)
+
+  -- ---- the only way
+
+  -- the two rows of the one triangle
+  abbrev pub rowsTwo : List Row
+  rowsTwo =
+      record { p = a; q = u; r = v; s = w; region = region }
+      ∷ record { p = u; q = v; r = w; s = b; region = region } ∷ []
+
+  site-a : site .a ≡ a
+  unfolding siteOf
+  site-a = min-is
+
+  site-b : site .b ≡ b
+  unfolding siteOf
+  site-b = max-is
+
+  pub three-table : tableAfter site (cut side side) ≡ kept ++ rowsTwo
+  unfolding tableAfter newRows triangles twoRows flatMap span
+  three-table = rw (three-kept, ring-three, three-removed, site-a, site-b)
+
+-- a ring of three is triangulated in one way
+pub one-tree : (t : Tri) → span t ≡ 2 → t ≡ cut side side
+unfolding span
+one-tree side e = absurd (omega arith)
+one-tree (cut side side) e = refl
+one-tree (cut side (cut l r)) e = absurd (omega (arith, span-over l, span-over r))
+one-tree (cut (cut l r) t) e = absurd (omega (arith, span-over l, span-over r, span-over t))

@@ -1,0 +1,190 @@
+-- Law 5: whatever triangulation of the ring is carried out, the total D stays. The removed rows' D are those of their links,
+-- the links are the sides of the ring, and the new rows' total is the sum over the sides.
+use Prim.Native.Nat.{ℕ, zero, suc, _+_, _-_, _≤_, _<_}
+use mathlib.Core.Bool.{not}
+use mathlib.Core.List.{List, [], _∷_, _++_, map, List·Memᴰ, List·Memᴰ·head, List·Memᴰ·tail, Memᴰ·of-map, map-append}
+use mathlib.Core.Path.{_≡_, refl, sym, ap, _∙_, subst}
+use native.Mathlib.Omega.{arith}
+use lib.Dec.{T}
+use lib.IntN.{ℤ, pos, negℤ, _+ℤ_, +ℤ-idl, +ℤ-idr, +ℤ-assoc, +ℤ-comm, +ℤ-invr}
+use lib.ListN.{length, length-map}
+use Rattle.algebra.proofs.Normal.{var, con, _:+_, norm, same, _⊹_, ring-from}
+use Rattle.lists.specs.Lists.{those, numbersFrom}
+use Rattle.lists.proofs.Tests.{and-l, and-r}
+use Rattle.lists.proofs.Lists.{those-e}
+use Rattle.lists.proofs.Sums.{Single, none, one-more, sumOver, sum-same}
+use Rattle.lists.proofs.Numbers.{numbers-e, numbers-length, numbers-append}
+use Rattle.lists.proofs.Places.{in-cases}
+use Rattle.measure.specs.Measure.{D}
+use Rattle.measure.proofs.Identities.{D-kept, D-exchanged, pqsr}
+use Rattle.mesh.specs.declared.Row.{Row}
+use Rattle.mesh.specs.Mesh.{holds, place, rowD, totalD}
+use Rattle.mesh.specs.Tetrahedra.{arrangedFrom}
+use Rattle.mesh.proofs.Places.{arranged-from}
+use Rattle.mesh.proofs.Measured.{even-D, total-split}
+use Rattle.ring.specs.Ring.{Site, Link, holdsEdge, link, m}
+use Rattle.ring.specs.Sound.{SoundRing}
+use Rattle.pieces.specs.Triangulation.{Tri, side, cut, span, v, newRows, tableAfter}
+use Rattle.pieces.proofs.Ways.{span-over}
+use Rattle.pieces.proofs.Sound.{next-link, last-link, all-differ}
+use Rattle.pieces.proofs.Total.{total-append, linkD, chainD, total-piece}
+
+-- ---- sums
+
+sum-through : {A B : Type 0} (g : A → ℤ) (h : B → ℤ) (k : A → B) (xs : List A) → ((x : A) → List·Memᴰ x xs → g x ≡ h (k x))
+    → sumOver g xs ≡ sumOver h (map k xs)
+sum-through g h k [] e = refl
+sum-through g h k (x ∷ xs) e =
+    ap (λ z. z +ℤ sumOver g xs) (e x (List·Memᴰ·head refl)) ∙ ap (λ z. h (k x) +ℤ z) (sum-through g h k xs (λ y m. e y (List·Memᴰ·tail m)))
+
+sum-append : {A : Type 0} (f : A → ℤ) (xs ys : List A) → sumOver f (xs ++ ys) ≡ sumOver f xs +ℤ sumOver f ys
+sum-append f [] ys = sym (+ℤ-idl (sumOver f ys))
+sum-append f (x ∷ xs) ys = ap (λ z. f x +ℤ z) (sum-append f xs ys) ∙ sym (+ℤ-assoc (f x) (sumOver f xs) (sumOver f ys))
+
+-- what is made of different numbers is made once
+single-map : {B : Type 0} (g : ℕ → B) (i n : ℕ) → ((j k : ℕ) → i ≤ j → j < k → k < i + n → g k ≡ g j → ⊥) → Single (map g (numbersFrom i n))
+unfolding numbersFrom
+single-map g i zero apart = none
+single-map g i (suc n) apart =
+    one-more (λ m.
+    let (k, at, e) = Memᴰ·of-map g (numbersFrom (suc i) n) m in
+    let (low, high) = numbers-e (suc i) n at in
+    apart i k (omega arith) low (omega arith) e)
+    (single-map g (suc i) n (λ j k low less high e. apart j k (omega arith) less (omega arith) e))
+
+-- ---- the sides of the ring
+
+module _ (site : Site) where
+  -- D of a link's row
+  abbrev ofLink : Link → ℤ
+  ofLink l = linkD site (l .0) (l .1)
+
+  -- the side from vi to the next
+  abbrev sideAt : ℕ → Link
+  sideAt i = (v site i, v site (suc i))
+
+  -- the sides from vi on, along a piece
+  abbrev sidesFrom : ℕ → ℕ → List Link
+  sidesFrom i n = map sideAt (numbersFrom i n)
+
+  sides-chain : (i : ℕ) (t : Tri) → sumOver ofLink (sidesFrom i (span t)) ≡ chainD site i t
+  unfolding chainD span numbersFrom
+  sides-chain i side =
+      let e : i + 1 ≡ suc i = omega arith in
+      rw e (+ℤ-idr (ofLink (sideAt i)))
+  sides-chain i (cut l r) =
+      ap (λ ns. sumOver ofLink (map sideAt ns)) (numbers-append i (span l) (span r))
+      ∙ ap (sumOver ofLink) (map-append sideAt (numbersFrom i (span l)) (numbersFrom (i + span l) (span r)))
+      ∙ sum-append ofLink (sidesFrom i (span l)) (sidesFrom (i + span l) (span r))
+      ∙ ap (λ z. z +ℤ sumOver ofLink (sidesFrom (i + span l) (span r))) (sides-chain i l)
+      ∙ ap (λ z. chainD site i l +ℤ z) (sides-chain (i + span l) r)
+
+  -- D of a removed row is that of its link
+  link-D : (row : Row) → (site .a ≡ site .b → ⊥) → T (holdsEdge (site .a) (site .b) row) → rowD (site .points) row ≡ ofLink (link (site .a) (site .b) row)
+  unfolding link rowD
+  link-D row apart h =
+      let a = site .a in
+      let b = site .b in
+      let t = arrangedFrom a b row in
+      let (even, p, q) = arranged-from a b row (and-l (holds row a) (holds row b) h) (and-r (holds row a) (holds row b) h) apart in
+      let at = place (site .points) in
+      sym (even-D (site .points) t row even)
+      ∙ ap (λ x. D (at x) (at (t .q)) (at (t .r)) (at (t .s))) p
+      ∙ ap (λ x. D (at a) (at x) (at (t .r)) (at (t .s))) q
+
+  module _ (sound : SoundRing site) (whole : length (site .removed) ≤ m site) (t : Tri) (spans : span t ≡ m site - 1) where
+    many : 2 ≤ m site
+    many = omega (arith, span-over t)
+
+    -- the sides of the ring: the closing one, and those from v1 on
+    abbrev sides : List Link
+    sides = (v site (m site), v site 1) ∷ sidesFrom 1 (m site - 1)
+
+    places-differ : (i j : ℕ) → 1 ≤ i → i ≤ m site → 1 ≤ j → j ≤ m site → v site i ≡ v site j → i ≡ j
+    places-differ i j a b c d e = all-differ site (sound .chain) many .points i j (a, b) (c, d) e
+
+    closing-once : List·Memᴰ (v site (m site), v site 1) (sidesFrom 1 (m site - 1)) → ⊥
+    closing-once k =
+        let (i, at, e) = Memᴰ·of-map sideAt (numbersFrom 1 (m site - 1)) k in
+        let (low, high) = numbers-e 1 (m site - 1) at in
+        let same = places-differ i (m site) low (omega arith) (omega (arith, many)) (omega arith) (ap (λ (l : Link). l .0) e) in
+        omega arith
+
+    step-once : (j k : ℕ) → 1 ≤ j → j < k → k < 1 + (m site - 1) → sideAt k ≡ sideAt j → ⊥
+    step-once j k low less high e =
+        let same = places-differ k j (omega arith) (omega arith) low (omega arith) (ap (λ (l : Link). l .0) e) in
+        omega arith
+
+    sides-single : Single sides
+    sides-single = one-more {x = (v site (m site), v site 1)} closing-once (single-map sideAt 1 (m site - 1) step-once)
+
+    sides-linked : (l : Link) → List·Memᴰ l sides → List·Memᴰ l (site .links)
+    sides-linked l k =
+        in-cases k
+        (λ e. subst (λ l. List·Memᴰ l (site .links)) (sym e) (last-link site sound (m site) (omega (arith, many)) refl))
+        (λ k.
+        let (i, at, e) = Memᴰ·of-map sideAt (numbersFrom 1 (m site - 1)) k in
+        let (low, high) = numbers-e 1 (m site - 1) at in
+        subst (λ l. List·Memᴰ l (site .links)) e (next-link site (sound .chain) i low (omega arith)))
+
+    sides-length : length (site .links) ≤ length sides
+    sides-length =
+        omega (
+          arith,
+          many,
+          ap length (sound .chain .linked),
+          length-map (site .removed) (link (site .a) (site .b)),
+          length-map (numbersFrom 1 (m site - 1)) sideAt,
+          numbers-length 1 (m site - 1),
+        )
+
+    -- the total of the removed rows
+    removed-total : totalD (site .points) (site .removed) ≡ ofLink (v site (m site), v site 1) +ℤ chainD site 1 t
+    unfolding totalD
+    removed-total =
+        sum-through (rowD (site .points)) ofLink (link (site .a) (site .b)) (site .removed)
+        (λ row k. link-D row (λ e. omega (arith, sound .chain .ordered)) (those-e (holdsEdge (site .a) (site .b)) (sound .chain .table) (subst (λ rows. List·Memᴰ row rows) (sound .chain .going) k) .1))
+        ∙ ap (sumOver ofLink) (sym (sound .chain .linked))
+        ∙ sum-same ofLink (site .links) sides sides-length sides-single sides-linked
+        ∙ ap (λ n. ofLink (v site (m site), v site 1) +ℤ sumOver ofLink (sidesFrom 1 n)) (sym spans)
+        ∙ ap (λ z. ofLink (v site (m site), v site 1) +ℤ z) (sides-chain 1 t)
+
+    closing-twice : ofLink (v site (m site), v site 1) +ℤ ofLink (v site 1, v site (m site)) ≡ pos 0
+    closing-twice =
+        let at = place (site .points) in
+        let a = at (site .a) in
+        let b = at (site .b) in
+        let x = at (v site (m site)) in
+        let y = at (v site 1) in
+        ap (λ z. D a b x y +ℤ z) (pqsr D-kept negℤ D-exchanged a b x y) ∙ +ℤ-invr (D a b x y)
+
+    new-total : totalD (site .points) (newRows site 1 t) +ℤ ofLink (v site 1, v site (m site)) ≡ chainD site 1 t
+    new-total =
+        let e : 1 + span t ≡ m site = omega (arith, many) in
+        subst (λ n. totalD (site .points) (newRows site 1 t) +ℤ linkD site (v site 1) (v site n) ≡ chainD site 1 t) e (total-piece site 1 t)
+
+    -- the new rows have the total of the removed ones
+    pub ring-total : totalD (site .points) (newRows site 1 t) ≡ totalD (site .points) (site .removed)
+    unfolding norm
+    ring-total =
+        ring-from
+        (totalD (site .points) (newRows site 1 t) ∷ totalD (site .points) (site .removed) ∷ chainD site 1 t
+        ∷ ofLink (v site (m site), v site 1) ∷ ofLink (v site 1, v site (m site)) ∷ [])
+        (var 0) (var 1)
+        (same (var 0 :+ var 4) (var 2) new-total ⊹ same (var 3 :+ var 2) (var 1) (sym removed-total)
+        ⊹ same (con (pos 0)) (var 3 :+ var 4) (sym closing-twice))
+        refl
+
+    -- law 5: so the whole table keeps its total
+    pub table-total : (table : List Row) → site .removed ≡ those (holdsEdge (site .a) (site .b)) table
+        → site .kept ≡ those (λ row. not (holdsEdge (site .a) (site .b) row)) table
+        → totalD (site .points) (tableAfter site t) ≡ totalD (site .points) table
+    unfolding tableAfter
+    table-total table going staying =
+        let goes = holdsEdge (site .a) (site .b) in
+        total-append (site .points) (site .kept) (newRows site 1 t)
+        ∙ ap (λ z. totalD (site .points) (site .kept) +ℤ z) ring-total
+        ∙ +ℤ-comm (totalD (site .points) (site .kept)) (totalD (site .points) (site .removed))
+        ∙ ap (λ rows. totalD (site .points) rows +ℤ totalD (site .points) (site .kept)) going
+        ∙ ap (λ rows. totalD (site .points) (those goes table) +ℤ totalD (site .points) rows) staying
+        ∙ total-split (site .points) goes table
