@@ -3,7 +3,7 @@ use Prim.Native.Nat.{ℕ, zero, suc, _+_, _-_, _≤_, _<_}
 use mathlib.Core.Bool.{Bool, true, false, cond, not, _&&_, _||_}
 use mathlib.Core.List.{List, [], _∷_, _++_, map, map-append, List·Memᴰ, List·Memᴰ·head, List·Memᴰ·tail, List·Memᴰ·not-nil}
 use mathlib.Core.Logic.{_⊎_, inl, inr}
-use mathlib.Core.Option.{none, some}
+use mathlib.Core.Option.{none, some, Option·none-ne-some, Option·some-injective}
 use mathlib.Core.Path.{_≡_, refl, sym, ap, _∙_, subst}
 use native.Mathlib.Decide.{decLe, decLt}
 use native.Mathlib.Nat.{zero-add, add-zero, suc-add}
@@ -263,6 +263,21 @@ first-at p i (suc n) k h l t f = go (decLt i k) (first-at p (suc i) n k)
     go (no c) below =
         let e : k ≡ i = omega arith in
         rw (yes-is (p i) (subst (λ m. T (p m)) e t)) (ap some (sym e))
+
+-- before the first that passes none does
+pub first-least : (p : ℕ → Bool) (i n : ℕ) {k : ℕ} → first p (numbersFrom i n) ≡ some k → (l : ℕ) → i ≤ l → l < k → T (not (p l))
+unfolding first numbersFrom
+first-least p i zero {k} e l a b = absurd (Option·none-ne-some k e)
+first-least p i (suc n) {k} e l a b = go (p i) refl e (decLt i l) (first-least p (suc i) n)
+  where
+    go : (c : Bool) → p i ≡ c → cond c (some i) (first p (numbersFrom (suc i) n)) ≡ some k → Dec (i < l)
+        → (first p (numbersFrom (suc i) n) ≡ some k → (l : ℕ) → suc i ≤ l → l < k → T (not (p l)))
+        → T (not (p l))
+    go true q e d below = absurd (omega (arith, Option·some-injective i k e))
+    go false q e (yes c) below = below e l c b
+    go false q e (no c) below =
+        let s : l ≡ i = omega arith in
+        rw (s, q) tt
 
 -- none passes: there is no first
 pub first-no : (p : ℕ → Bool) (i n : ℕ) → ((l : ℕ) → i ≤ l → l < i + n → T (not (p l))) → first p (numbersFrom i n) ≡ none

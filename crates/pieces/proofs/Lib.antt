@@ -15,3 +15,11 @@ pub mod Volume
 pub mod Rings
 pub mod Across
 pub mod Kindred
+pub mod Cells
+pub mod Gathering
+pub mod Looking
+pub mod Sites
+pub mod Stored
+pub mod Pasting
+pub mod Written
+pub mod Optimal

@@ -1,4 +1,20 @@
-// The best triangulation of a ring.
+// The best triangulation of a ring: the table of its pieces, filled from the smaller to the larger, and the new rows it stands for.
+mod candidates;
+mod expanded;
+mod filled;
+mod gathered;
+
+pub use candidates::best_at;
+pub use candidates::cell_at;
+pub use expanded::expand;
+pub use expanded::write_row;
+pub use filled::fill;
+use measure::Quality;
+
+// The largest m, and the cells of a table: one for each pair of ring places.
+const MAX_RING: usize = 10;
+
+const CELLS: usize = 100;
 
 // The ring with, for every piece (i,j), its best worst and its chosen apex, at one place of four flat arrays.
 // kinds: 0 for the mark of a piece without an admissible triangulation, 1 inverted, 2 flat, 3 upright.
@@ -9,4 +25,62 @@ pub struct Pieces {
     pub nums: [u64; 100],
     pub dens: [u64; 100],
     pub apexes: [u8; 100],
+}
+
+// The points that new rows have: the ends, and v1 to vm from place 0 on.
+pub struct Rim {
+    pub a: u8,
+    pub b: u8,
+    pub v: [u8; 10],
+}
+
+// The best worst of a piece, or the mark.
+pub enum Best {
+    Mark,
+    Worst(Quality),
+}
+
+// The keys of the faces of kept rows that can matter: n of them.
+struct Kept {
+    n: usize,
+    keys: [u32; 244],
+}
+
+// The two rows of a triangle x, y, z: (a,x,y,z) and (x,y,z,b).
+struct Bipyramid {
+    a: u8,
+    x: u8,
+    y: u8,
+    z: u8,
+    b: u8,
+}
+
+// A triangle's side: two neighbours of the ring, a diagonal with its piece's best worst, or a diagonal that cannot be taken.
+enum Side {
+    Neighbours,
+    Diagonal(Quality),
+    Closed,
+}
+
+// What the apexes looked at have given: the apex to take and the best worst with it.
+enum Choice {
+    Nothing,
+    Apex(u8, Quality),
+}
+
+// What one cell of the table keeps.
+struct Cell {
+    kind: u8,
+    num: u64,
+    den: u64,
+    apex: u8,
+}
+
+// The table while it is filled, and beside it whether a kept row uses a face of a or b with a piece's closing side.
+struct Filling {
+    kinds: [u8; 100],
+    nums: [u64; 100],
+    dens: [u64; 100],
+    apexes: [u8; 100],
+    used: [bool; 100],
 }

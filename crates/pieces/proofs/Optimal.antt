@@ -1,0 +1,178 @@
+-- What a table that keeps the pieces of a ring says of every triangulation, and what a caller of the expansion has to show of it.
+use Prim.Native.Nat.{ℕ, zero, suc, _+_, _-_, _≤_, _<_}
+use mathlib.Core.Bool.{not}
+use mathlib.Core.Option.{Option, none, some}
+use mathlib.Core.Path.{_≡_, refl, sym, ap, _∙_, subst}
+use native.Mathlib.Omega.{arith}
+use lib.Dec.{T, T-not, not-T}
+use lib.ListN.{getD, replicate, List·getD-append}
+use Rattle.lists.proofs.Numbers.{first-least}
+use Rattle.measure.specs.declared.Quality.{Quality}
+use Rattle.measure.specs.Measure.{asGood}
+use Rattle.measure.proofs.Order.{Fraction, _≈_, as-good, from-as-good, as-good-back, as-good-goes-on, at-most-trans}
+use Rattle.ring.specs.Ring.{Site, m, maxRing}
+use Rattle.pieces.specs.declared.Pieces.{Pieces}
+use Rattle.pieces.specs.Triangulation.{Tri, cut, span, v, regionOf}
+use Rattle.pieces.specs.Admissible.{pieceAdmissible}
+use Rattle.pieces.specs.Best.{Keeps, worstOfWay, bestWorst, apex, cellAt, keptBest, keptApex, sameBest, reaches}
+use Rattle.pieces.specs.Filling.{codedApex, readBest}
+use Rattle.pieces.specs.Expanding.{Between, Follows}
+use Rattle.pieces.specs.Optimum.{IsBestWorst, IsMarked, IsApex}
+use Rattle.pieces.proofs.Ways.{span-over}
+use Rattle.pieces.proofs.Stored.{apex-over}
+use Rattle.pieces.proofs.Worsts.{Way, Reached, best-there, best-reached}
+use Rattle.pieces.proofs.Apex.{Reaches, apex-between, apex-reaches, apex-there, mark-apex, reach-i}
+use Rattle.pieces.proofs.Cells.{kept-is, apex-is, read-is}
+
+-- nothing is as good as a mark but a mark
+none-best : (o : Option Quality) → T (sameBest none o) → o ≡ none
+unfolding sameBest
+none-best none t = refl
+none-best (some q) t = absurd t
+
+-- before the apex none reaches the best worst
+before : (site : Site) (i j : ℕ) {k : ℕ} → apex site i j ≡ some k → (l : ℕ) → i < l → l < k → T (not (reaches site i j (bestWorst site i j) l))
+unfolding apex
+before site i j e l a b = first-least (reaches site i j (bestWorst site i j)) (suc i) (j - i - 1) e l a b
+
+module _ {site : Site} {table : Pieces} (keeps : Keeps site table) where
+  -- ---- one cell, against every triangulation of its piece
+
+  module _ (i j : ℕ) (start : 1 ≤ i) (long : i + 2 ≤ j) (end : j ≤ m site) where
+    way : (t : Tri) → span t ≡ j - i → T (pieceAdmissible site i t) → Way site i j t
+    way t e a = record { ends = omega arith; admissible = a }
+
+    -- the kept best worst is one fraction with one that is reached
+    top : {q : Quality} → keptBest table i j ≡ some q → (p : Quality) × (bestWorst site i j ≡ some p) × Reached site i j p × (q ≈ p)
+    unfolding sameBest
+    top {q} e = go (bestWorst site i j) refl (subst (λ o. T (sameBest o (bestWorst site i j))) e (keeps .best i j start long end))
+      where
+        go : (o : Option Quality) → bestWorst site i j ≡ o → T (sameBest (some q) o)
+            → (p : Quality) × (bestWorst site i j ≡ some p) × Reached site i j p × (q ≈ p)
+        go none b t = absurd t
+        go (some p) b t = (p, b, best-reached site (omega arith) b, from-as-good q p t)
+
+    -- a cell is its piece's best worst over every admissible triangulation,
+    pub kept-best : {q : Quality} → keptBest table i j ≡ some q → IsBestWorst site i j q
+    kept-best {q} e =
+        let t = top e in
+        let p = t .0 in
+        let r = t .2 in
+        record {
+          by = r .by;
+          spans = omega (arith, r .way .ends);
+          admissible = r .way .admissible;
+          reaches = as-good (subst (λ w. w ≈ q) (sym (r .worst)) (record { up = t .3 .down; down = t .3 .up }));
+          none-better = λ u s a. at-most-trans (r .fraction) (r .bounds u (way u s a)) (t .3 .down) .not-worse;
+        }
+
+    -- or the mark, exactly when there is none
+    pub kept-mark : keptBest table i j ≡ none → IsMarked site i j
+    unfolding sameBest
+    kept-mark e t s =
+        not-T (pieceAdmissible site i t) (λ a.
+        let b = best-there site (way t s a) in
+        subst (λ o. T (sameBest none o)) (b .1) (subst (λ o. T (sameBest o (bestWorst site i j))) e (keeps .best i j start long end)))
+
+    pub mark-kept : IsMarked site i j → keptBest table i j ≡ none
+    mark-kept marked = go (keptBest table i j) refl
+      where
+        go : (o : Option Quality) → keptBest table i j ≡ o → o ≡ none
+        go none e = refl
+        go (some q) e = let b = kept-best e in absurd (T-not (pieceAdmissible site i (b .by)) (marked (b .by) (b .spans)) (b .admissible))
+
+    -- the apex is the smallest k with which some admissible triangulation reaches the best worst
+    pub kept-apex : {q : Quality} → keptBest table i j ≡ some q → (k : ℕ) × (keptApex table i j ≡ some k) × IsApex site i j q k
+    kept-apex {q} e = (
+      k,
+      keeps .apexes i j start long end ∙ own .1,
+      record {
+        left = at .l;
+        right = at .r;
+        left-ends = at .cuts .at-k;
+        right-ends = at .cuts .at-j;
+        admissible = at .admissible;
+        reaches = as-good-goes-on (worstOfWay site i (cut (at .l) (at .r))) p q fraction (as-good (at .reached)) (as-good-back q p (as-good same));
+        smallest = least;
+      },
+    )
+      where
+        p : Quality
+        p = top e .0
+
+        is : bestWorst site i j ≡ some p
+        is = top e .1
+
+        fraction : Fraction p
+        fraction = top e .2 .fraction
+
+        same : q ≈ p
+        same = top e .3
+
+        own : (k : ℕ) × (apex site i j ≡ some k)
+        own = apex-there site long (top e .2 .way)
+
+        k : ℕ
+        k = own .0
+
+        at : Reaches site i k j p
+        at = apex-reaches site is (own .1)
+
+        least : (l r : Tri) → span (cut l r) ≡ j - i → i + span l < k → T (pieceAdmissible site i (cut l r))
+            → T (not (asGood (worstOfWay site i (cut l r)) q))
+        least l r s low a =
+            let w = worstOfWay site i (cut l r) in
+            not-T (asGood w q) (λ good.
+            let as-top = from-as-good w p (as-good-goes-on w q p (record { over = keeps .fractions i j start long end q e }) good (as-good same)) in
+            let reached = reach-i site (way (cut l r) s a) refl as-top in
+            T-not (reaches site i j (bestWorst site i j) (i + span l))
+            (before site i j (own .1) (i + span l) (omega (arith, span-over l)) low)
+            (subst (λ o. T (reaches site i j o (i + span l))) (sym is) reached))
+
+    -- a piece with the mark has no apex
+    pub mark-no-apex : keptBest table i j ≡ none → keptApex table i j ≡ none
+    mark-no-apex e = keeps .apexes i j start long end ∙ mark-apex site i j (none-best (bestWorst site i j) (subst (λ o. T (sameBest o (bestWorst site i j))) e (keeps .best i j start long end)))
+
+    -- what is read from the cell is what it keeps
+    pub read-kept : readBest (getD (table .kinds) (cellAt i j) 0) (getD (table .nums) (cellAt i j) 0) (getD (table .dens) (cellAt i j) 0) ≡ keptBest table i j
+    read-kept =
+        let at = cellAt i j in
+        read-is (getD (table .kinds) at 0) (getD (table .nums) at 0) (getD (table .dens) at 0)
+        (λ q e. keeps .fractions i j start long end q (kept-is table i j ∙ e))
+        ∙ sym (kept-is table i j)
+
+  -- ---- what the expansion asks for
+
+  apex-kept : (l e : ℕ) → 1 ≤ l → l + 2 ≤ e → e ≤ m site → codedApex (getD (table .apexes) (cellAt l e) 0) ≡ apex site l e
+  apex-kept l e a b c = sym (apex-is table l e) ∙ keeps .apexes l e a b c
+
+  -- the apexes lie between the ends of their pieces
+  pub kept-between : Between (table .apexes) 1 (m site)
+  kept-between =
+      record {
+        high = λ l e a b c. within l e b (getD (table .apexes) (cellAt l e) 0) (apex-kept l e a b c) .0;
+        low = λ l e a b c. within l e b (getD (table .apexes) (cellAt l e) 0) (apex-kept l e a b c) .1;
+      }
+    where
+      within : (l e : ℕ) → l + 2 ≤ e → (k : ℕ) → codedApex k ≡ apex site l e → (k < e) × ((k ≡ 0 → ⊥) → l < k)
+      within l e b zero h = (omega arith, λ n. absurd (n refl))
+      within l e b (suc k) h = let between = apex-between site (sym h ∙ apex-over (suc k) (omega arith)) in (between .1, λ n. between .0)
+
+  -- points, region and apexes are the site's
+  pub kept-follows : Follows site (table .apexes) (record { a = site .a; b = site .b; v = table .ring }) (regionOf (site .removed)) 1 (m site)
+  kept-follows =
+      record {
+        a = refl;
+        b = refl;
+        v = point;
+        own-region = refl;
+        own-apexes = apex-kept;
+      }
+    where
+      point : (l : ℕ) → 1 ≤ l → l ≤ m site → getD (table .ring) (l - 1) 0 ≡ v site l
+      point zero s h = absurd (omega arith)
+      point (suc l) s h =
+          let back : suc l - 1 ≡ l = omega arith in
+          ap (λ k. getD (table .ring) k 0) back
+          ∙ ap (λ ring. getD ring l 0) (keeps .ring)
+          ∙ List·getD-append (site .ring) (replicate (maxRing - m site) 0) 0 l (omega arith)

@@ -1,0 +1,40 @@
+-- `write_two` writes one row and the other after it.
+use Prim.Native.Nat.{_+_}
+use mathlib.Core.List.{[], _∷_}
+use mathlib.Core.Path.{refl, ap, _∙_}
+use native.Mathlib.Omega.{arith}
+use denote.Ref.{now}
+use borrow.Author.Needs.{needs}
+use Rattle.mesh.specs.declared.Row.{Row}
+use Rattle.pieces.specs.Expanding.{withRows}
+use Rattle.pieces.proofs.Written.{with-more}
+use Rattle.pieces.proofs.expanded.write_two.Statement.{statement}
+use Rattle.pieces.proofs.expanded.write_two.Tie as tie
+
+write-row-requires : tie.Need-write-row-requires
+write-row-requires c κs = search needs
+
+add-write-row : tie.Need-add-write-row
+add-write-row c = search needs
+
+write-row-requires-2 : tie.Need-write-row-requires-2
+write-row-requires-2 c κs = search needs
+
+same-length : tie.Need-same-length
+same-length c = search needs
+
+returns : tie.Need-returns
+returns c =
+    let two = c .before .before in
+    let one = two .before .before .before .before in
+    let s = one .before .before .before in
+    let a = s .args in
+    let a-row : Row = record { p = a .rows .a; q = a .rows .x; r = a .rows .y; s = a .rows .z; region = a .region } in
+    let b-row : Row = record { p = a .rows .x; q = a .rows .y; r = a .rows .z; s = a .rows .b; region = a .region } in
+    two .write-row2 .ensures
+    ∙ ap (λ t. withRows t (a .at + 1) (b-row ∷ [])) (one .write-row .ensures)
+    ∙ with-more (now (a .table)) (a .at) (a .at + 1) (a-row ∷ []) (b-row ∷ []) refl (omega (arith, s .pre))
+
+pub write-two-spec : {M : Type 1} → statement M
+write-two-spec =
+    tie.close (tie.spec write-row-requires add-write-row write-row-requires-2 same-length returns)

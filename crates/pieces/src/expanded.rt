@@ -1,0 +1,94 @@
+// The new rows of a chosen triangulation, in written order.
+ghost use mathlib.Core.Path.{_≡_};
+ghost use mathlib.Core.List.{[], _∷_};
+ghost use Prim.Native.Nat.{_+_, _-_, _*_, _<_, _≤_};
+ghost use lib.ListN.{length, getD};
+ghost use Rattle.mesh.specs.Mesh.{rowSize};
+ghost use Rattle.ring.specs.Ring.{Site, maxRing};
+ghost use Rattle.pieces.specs.Triangulation.{newRows};
+ghost use Rattle.pieces.specs.Best.{cellAt, chosenOf};
+ghost use Rattle.pieces.specs.Filling.{cells};
+ghost use Rattle.pieces.specs.Expanding.{Between, Follows, rowsOver, withRows};
+use crate::Bipyramid;
+use crate::Rim;
+use crate::candidates::cell_at;
+use crate::candidates::two_over;
+use mesh::Row;
+
+// A row is five bytes.
+const ROW_SIZE: usize = 5;
+
+// Row i of a table is written; every other byte stays.
+pub fn write_row(table: &mut [u8], i: usize, row: Row)
+    requires { ⌜ rowSize * i + rowSize ≤ length (now table) ⌝ }
+    ensures { λ _. ⌜ now (table .exit) ≡ withRows (now (table .entry)) i (row ∷ []) ⌝ }
+{
+    let at = ROW_SIZE * i;
+    table[at] = row.p;
+    table[at + 1] = row.q;
+    table[at + 2] = row.r;
+    table[at + 3] = row.s;
+    table[at + 4] = row.region;
+}
+
+// The two rows of a triangle from row `at` on.
+fn write_two(table: &mut [u8], at: usize, rows: Bipyramid, region: u8)
+    requires { ⌜ rowSize * (at + 2) ≤ length (now table) ⌝ }
+    ensures { λ _. ⌜ now (table .exit) ≡ withRows (now (table .entry)) at (rowsOver rows region) ⌝ }
+{
+    let a_row = Row {
+        p: rows.a,
+        q: rows.x,
+        r: rows.y,
+        s: rows.z,
+        region,
+    };
+    let b_row = Row {
+        p: rows.x,
+        q: rows.y,
+        r: rows.z,
+        s: rows.b,
+        region,
+    };
+    write_row(table, at, a_row);
+    write_row(table, at + 1, b_row);
+}
+
+// The apex kept for piece (i,j), or 0 for the mark.
+fn apex_at(apexes: &[u8; 100], i: usize, j: usize) -> usize
+    requires { ⌜ (length (now apexes) ≡ cells) × Between (now apexes) i j × (1 ≤ i) × (i + 2 ≤ j) × (j ≤ maxRing) ⌝ }
+    ensures { λ r. ⌜ (r ≡ getD (now (apexes .entry)) (cellAt i j) 0) × (r < j) × ((r ≡ 0 → ⊥) → i < r) ⌝ }
+{
+    apexes[cell_at(i, j)] as usize
+}
+
+// The new rows of piece (i,j), from row `at` on: those of its own triangle, then of the pieces (i,k) and (k,j).
+// The row after the last one written is returned.
+pub fn expand(
+    table: &mut [u8],
+    at: usize,
+    apexes: &[u8; 100],
+    rim: Rim,
+    region: u8,
+    i: usize,
+    j: usize,
+) -> usize
+    requires { ⌜ (length (now apexes) ≡ cells) × Between (now apexes) i j × (1 ≤ i) × (i < j) × (j ≤ maxRing) ⌝ }
+    requires { ⌜ rowSize * (at + 2 * (j - i - 1)) ≤ length (now table) ⌝ }
+    ensures { λ r. ⌜ (r ≤ at + 2 * (j - i - 1))
+        × ((site : Site)
+        → Follows site (now (apexes .entry)) rim region i j
+        → (now (table .exit) ≡ withRows (now (table .entry)) at (newRows site i (chosenOf site i j)))
+        × (r ≡ at + length (newRows site i (chosenOf site i j)))) ⌝ }
+{
+    if j < i + 2 {
+        return at;
+    }
+    let k = apex_at(apexes, i, j);
+    if k == 0 {
+        return at;
+    }
+    write_two(table, at, two_over(rim, i, k, j), region);
+    let next = expand(table, at + 2, apexes, rim, region, i, k);
+    expand(table, next, apexes, rim, region, k, j)
+}

@@ -1,0 +1,122 @@
+// The faces of kept rows that can matter, gathered once: those whose numbers are all among a, b, v1..vm.
+ghost use mathlib.Core.Path.{_≡_};
+ghost use mathlib.Core.List.{[], _∷_, _++_};
+ghost use mathlib.Core.Bool.{_||_};
+ghost use Prim.Native.Nat.{_+_, _*_, _<_, _≤_};
+ghost use lib.ListN.{length, take};
+ghost use Rattle.mesh.specs.Mesh.{rowSize, rowsIn};
+ghost use Rattle.mesh.specs.Keys.{mostRows, mostKeys, rowFaces};
+ghost use Rattle.ring.specs.Ring.{maxRing};
+ghost use Rattle.pieces.specs.Gathered.{numbersOfAByte, Marks, keyed, keptOf, keptKeys, usedBy};
+use crate::Kept;
+use crate::Rim;
+use mesh::MOST_KEYS;
+use mesh::Row;
+
+// The numbers of a byte.
+const NUMBERS: usize = 256;
+
+// A point number as a place among all the numbers of a byte.
+fn place(point: u8) -> usize
+    ensures { λ r. ⌜ (r ≡ point) × (r < numbersOfAByte) ⌝ }
+{
+    point as usize
+}
+
+// The points a, b and v1 to vm are marked.
+pub fn marks(rim: Rim, m: usize) -> [bool; 256]
+    requires { ⌜ m ≤ maxRing ⌝ }
+    ensures { λ r. ⌜ Marks r rim m ⌝ }
+{
+    let mut marks = [false; NUMBERS];
+    marks[place(rim.a)] = true;
+    marks[place(rim.b)] = true;
+    for i in 0..m {
+        marks[place(rim.v[i])] = true;
+    }
+    marks
+}
+
+// A face's key after the first n, if its numbers are all marked; and how many keys there are then.
+fn add_face(
+    keys: &mut [u32; MOST_KEYS],
+    n: usize,
+    marks: &[bool; 256],
+    x: u8,
+    y: u8,
+    z: u8,
+) -> usize
+    requires { ⌜ (length (now keys) ≡ mostKeys) × (length (now marks) ≡ numbersOfAByte) × (n < mostKeys) ⌝ }
+    ensures { λ r. ⌜ (length (now (keys .exit)) ≡ mostKeys) × (r ≤ n + 1)
+        × (take r (now (keys .exit)) ≡ take n (now (keys .entry)) ++ keyed (now (marks .entry)) ((x, y, z) ∷ [])) ⌝ }
+{
+    if !marks[x as usize] {
+        return n;
+    }
+    if !marks[y as usize] {
+        return n;
+    }
+    if !marks[z as usize] {
+        return n;
+    }
+    keys[n] = mesh::face_key(x, y, z);
+    n + 1
+}
+
+// The same of a row's four faces, if the row does not hold both ends.
+fn add_row(
+    keys: &mut [u32; MOST_KEYS],
+    n: usize,
+    marks: &[bool; 256],
+    a: u8,
+    b: u8,
+    row: Row,
+) -> usize
+    requires { ⌜ (length (now keys) ≡ mostKeys) × (length (now marks) ≡ numbersOfAByte) × (n + rowFaces ≤ mostKeys) ⌝ }
+    ensures { λ r. ⌜ (length (now (keys .exit)) ≡ mostKeys) × (r ≤ n + rowFaces)
+        × (take r (now (keys .exit)) ≡ take n (now (keys .entry)) ++ keptKeys (now (marks .entry)) (keptOf a b (row ∷ []))) ⌝ }
+{
+    if ring::holds_edge(row, a, b) {
+        return n;
+    }
+    let one = add_face(keys, n, marks, row.q, row.r, row.s);
+    let two = add_face(keys, one, marks, row.p, row.s, row.r);
+    let three = add_face(keys, two, marks, row.p, row.q, row.s);
+    add_face(keys, three, marks, row.p, row.r, row.q)
+}
+
+// The keys of the kept rows' faces that are marked.
+pub fn gather(table: &[u8], n: usize, a: u8, b: u8, marks: &[bool; 256]) -> Kept
+    requires { ⌜ (rowSize * n ≤ length (now table)) × (n ≤ mostRows) × (length (now marks) ≡ numbersOfAByte) ⌝ }
+    ensures { λ r. ⌜ (length (r .keys) ≡ mostKeys) × (r .n ≤ mostKeys)
+        × (take (r .n) (r .keys) ≡ keptKeys (now (marks .entry)) (keptOf a b (rowsIn (now (table .entry)) n))) ⌝ }
+{
+    let mut keys = [0u32; MOST_KEYS];
+    let mut found: usize = 0;
+    for i in 0..n {
+        found = add_row(&mut keys, found, marks, a, b, mesh::row_in(table, i));
+    }
+    Kept { n: found, keys }
+}
+
+// Whether a face's key or that of the face the other way round is among the first n.
+pub fn uses_either(keys: &[u32; MOST_KEYS], n: usize, x: u8, y: u8, z: u8) -> bool
+    requires { ⌜ (length (now keys) ≡ mostKeys) × (n ≤ mostKeys) ⌝ }
+    ensures { λ r. ⌜ r ≡ usedBy (take n (now (keys .entry))) (x, y, z) ⌝ }
+{
+    if mesh::among(keys, n, mesh::face_key(x, y, z)) {
+        return true;
+    }
+    mesh::among(keys, n, mesh::face_key(x, z, y))
+}
+
+// The same of the faces that a and b make with a diagonal from x to y.
+pub fn uses_diagonal(keys: &[u32; MOST_KEYS], n: usize, a: u8, b: u8, x: u8, y: u8) -> bool
+    requires { ⌜ (length (now keys) ≡ mostKeys) × (n ≤ mostKeys) ⌝ }
+    ensures { λ r. ⌜ r ≡ usedBy (take n (now (keys .entry))) (a, x, y) || usedBy (take n (now (keys .entry))) (b, x, y) ⌝ }
+{
+    if uses_either(keys, n, a, x, y) {
+        return true;
+    }
+    uses_either(keys, n, b, x, y)
+}
