@@ -40,12 +40,6 @@ module _ (rows : List Row) where
       ap (λ zeros. flatMap rowBytes rows ++ zeros)
       (drop-zeros (rowSize * length rows) tableBytes ∙ ap (λ n. replicate (tableBytes - n) 0) (sym rows-size))
 
-  -- one row more
-  pub table-put : (row : Row) → pasted (tableWith rows) (rowSize * length rows) (rowBytes row) ≡ tableWith (rows ++ row ∷ [])
-  table-put row =
-      pasted-filled tableBytes (flatMap rowBytes rows) (rowBytes row) (rowSize * length rows) rows-size
-      ∙ ap (λ bytes. bytes ++ replicate (tableBytes - length bytes) 0) (sym (flatMap-snoc rowBytes rows row))
-
   -- several rows more
   pub table-append : (others : List Row) → pasted (tableWith rows) (rowSize * length rows) (flatMap rowBytes others) ≡ tableWith (rows ++ others)
   table-append others =
