@@ -1,15 +1,15 @@
 -- The mesh rule goes by the four numbers of each row: tables that differ in regions only keep it both or neither.
 use Prim.Native.Nat.{ℕ, _+_}
-use mathlib.Core.Bool.{Bool, _&&_}
+use mathlib.Core.Bool.{_&&_}
 use mathlib.Core.List.{List, [], _∷_, map}
 use mathlib.Core.Path.{_≡_, refl, sym, ap, _∙_}
 use lib.Dec.{ltb}
 use lib.ListN.{getD}
-use Rattle.lists.specs.Lists.{every, any, those, count, different}
+use Rattle.lists.specs.Lists.{every, those, count, different}
 use Rattle.lists.proofs.Counts.{ind, count-cons}
 use Rattle.lists.proofs.Images.{every-map}
 use Rattle.mesh.specs.declared.Row.{Row}
-use Rattle.mesh.specs.Mesh.{Face, numbers, faces, sameFace, uses, numbersFit, keepsMeshRule}
+use Rattle.mesh.specs.Mesh.{Face, numbers, faces, uses, numbersFit, keepsMeshRule}
 use Rattle.mesh.proofs.Counted.{hits, hits-cons, apart-same}
 
 -- the row of four numbers
@@ -24,11 +24,13 @@ hits-numbers f (row ∷ rows) =
     ∙ ap (λ n. ind (uses f row) + n) (hits-numbers f rows)
     ∙ sym (count-cons (λ ns. uses f (rowWith ns)) (numbers row) (map numbers rows))
 
-fits-numbers : (points : ℕ) (rows : List Row) → every (numbersFit points) rows ≡ every (λ ns. every (λ n. ltb n points) ns && different ns) (map numbers rows)
+fits-numbers : (points : ℕ) (rows : List Row)
+    → every (numbersFit points) rows ≡ every (λ ns. every (λ n. ltb n points) ns && different ns) (map numbers rows)
 unfolding numbersFit
 fits-numbers points rows = sym (every-map (λ ns. every (λ n. ltb n points) ns && different ns) numbers rows)
 
-pub keeps-numbers : (points : ℕ) (rows others : List Row) → map numbers rows ≡ map numbers others → keepsMeshRule points rows ≡ keepsMeshRule points others
+pub keeps-numbers : (points : ℕ) (rows others : List Row) → map numbers rows ≡ map numbers others
+    → keepsMeshRule points rows ≡ keepsMeshRule points others
 unfolding keepsMeshRule
 keeps-numbers points rows others same =
     let fit : every (numbersFit points) rows ≡ every (numbersFit points) others =

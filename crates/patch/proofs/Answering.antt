@@ -15,6 +15,7 @@ use Rattle.block.proofs.Refusals.{passed, goes-on, refuses}
 use Rattle.ring.specs.Ring.{Site, siteOf, m, minRing, numbersWrong, lengthWrong, edgeTests}
 use Rattle.patch.specs.Removing.{blockTests, noRoom, noWay, noneBetter, patchAfter, totalDiffers, removalTests, removeAnswer, Sound}
 use Rattle.patch.specs.Flipping.{flip32Tests, flip32Answer, pairOf, patchAfter23, flip23Tests, flip23Answer}
+use Rattle.patch.proofs.Lists.{or-true}
 
 -- ---- tests one after another
 
@@ -81,12 +82,9 @@ passed-block block out e size =
     let either : notBlock block || notBlock out ≡ false = rw (own, other) in
     rw (goes-on 1 (notBlock block || notBlock out) ((2, sumWrong block) ∷ bodyTests block) either) rest
 
-or-true : (a b : Bool) → b ≡ true → a || b ≡ true
-or-true true b e = refl
-or-true false b e = e
-
 -- of a block that opens, only the length of the output is tested
-pub block-opened : (block out : List ℕ) (rest : Tests) → openAnswer block ≡ 0 → firstRefusal (blockTests block out ++ rest) ≡ firstRefusal ((1, notBlock out) ∷ rest)
+pub block-opened : (block out : List ℕ) (rest : Tests) → openAnswer block ≡ 0
+    → firstRefusal (blockTests block out ++ rest) ≡ firstRefusal ((1, notBlock out) ∷ rest)
 unfolding blockTests
 block-opened block out rest opens = go (eqb (length out) blockBytes) refl
   where
@@ -95,7 +93,8 @@ block-opened block out rest opens = go (eqb (length out) blockBytes) refl
         front-passed (blockTests block out) rest (block-numbered block out) (passed-block block out opens (eqb-true (length out) blockBytes e))
         ∙ sym (goes-on 1 (notBlock out) rest (ap not e))
     go false e =
-        refuses 1 (notBlock block || notBlock out) _ (or-true (notBlock block) (notBlock out) (ap not e)) ∙ sym (refuses 1 (notBlock out) rest (ap not e))
+        refuses 1 (notBlock block || notBlock out) _ (or-true (notBlock block) (notBlock out) (ap not e))
+        ∙ sym (refuses 1 (notBlock out) rest (ap not e))
 
 -- what is left to test behind them
 module _ (block out : List ℕ) (e f : ℕ) (rest : Tests) where

@@ -12,7 +12,6 @@ use lib.ListN.{length}
 use Rattle.lists.specs.Lists.{every, any, those}
 use Rattle.lists.proofs.Lists.{any-i, every-i, those-e}
 use Rattle.lists.proofs.Counts.{count-append, count-split}
-use Rattle.measure.specs.declared.Point.{Point}
 use Rattle.mesh.specs.declared.Row.{Row}
 use Rattle.mesh.specs.Mesh.{keepsMeshRule}
 use Rattle.mesh.specs.Tetrahedra.{rearranged, SameTetrahedra}
@@ -30,9 +29,10 @@ use Rattle.patch.specs.Flipping.{flip32Tests, flip32Answer, flip32Bytes,
 use Rattle.patch.specs.Demands.{Way, Flipped, BroughtBack}
 use Rattle.patch.proofs.Answering.{flips-23, flip32-left}
 use Rattle.patch.proofs.Sites.{opens-rule}
+use Rattle.patch.proofs.Written.{patch-is}
 use Rattle.patch.proofs.Third.{way-there, site-chosen}
 use Rattle.patch.proofs.Facing.{Facing}
-use Rattle.patch.proofs.Second.{flips-facing, flip23-accepted, flip32-accepted}
+use Rattle.patch.proofs.Accepting.{flips-facing, flip23-accepted, flip32-accepted}
 use Rattle.patch.proofs.Threes.{rowsRound, ring-three, three-pass, three-table, one-tree}
 
 -- a table is what goes and what stays
@@ -46,12 +46,14 @@ same-two : (x y : Row) → SameTetrahedra (x ∷ y ∷ []) (y ∷ x ∷ [])
 same-two x y = same-swap (x ∷ []) (y ∷ [])
 
 -- the two rows of the triangle are the two that went
-module _ {count : ℕ} {pair : Pair} {face : List ℕ} (f : Facing count pair face) (one-region : (s t : Row) → List·Memᴰ s (pair .removed) → List·Memᴰ t (pair .removed) → s .region ≡ t .region) where
+module _ {count : ℕ} {pair : Pair} {face : List ℕ} (f : Facing count pair face)
+    (one-region : (s t : Row) → List·Memᴰ s (pair .removed) → List·Memᴰ t (pair .removed) → s .region ≡ t .region) where
   -- both have the region of the first
   region-is : (row : Row) → List·Memᴰ row (pair .removed) → regionOf (pair .removed) ≡ row .region
   region-is row k = go (pair .removed) one-region k
     where
-      go : (rows : List Row) → ((s t : Row) → List·Memᴰ s rows → List·Memᴰ t rows → s .region ≡ t .region) → List·Memᴰ row rows → regionOf rows ≡ row .region
+      go : (rows : List Row) → ((s t : Row) → List·Memᴰ s rows → List·Memᴰ t rows → s .region ≡ t .region)
+          → List·Memᴰ row rows → regionOf rows ≡ row .region
       go [] same k = absurd (List·Memᴰ·not-nil k)
       go (first ∷ rows) same k = same first row (List·Memᴰ·head refl) k
 
@@ -63,7 +65,8 @@ module _ {count : ℕ} {pair : Pair} {face : List ℕ} (f : Facing count pair fa
   members : List·Memᴰ (f .rowA) (pair .removed) × List·Memᴰ (f .rowB) (pair .removed)
   members = go (f .order)
     where
-      go : (pair .removed ≡ f .rowA ∷ f .rowB ∷ []) ⊎ (pair .removed ≡ f .rowB ∷ f .rowA ∷ []) → List·Memᴰ (f .rowA) (pair .removed) × List·Memᴰ (f .rowB) (pair .removed)
+      go : (pair .removed ≡ f .rowA ∷ f .rowB ∷ []) ⊎ (pair .removed ≡ f .rowB ∷ f .rowA ∷ [])
+          → List·Memᴰ (f .rowA) (pair .removed) × List·Memᴰ (f .rowB) (pair .removed)
       go (inl e) = rw e (List·Memᴰ·head refl, List·Memᴰ·tail (List·Memᴰ·head refl))
       go (inr e) = rw e (List·Memᴰ·tail (List·Memᴰ·head refl), List·Memᴰ·head refl)
 
@@ -108,9 +111,12 @@ module _ (block out other : List ℕ) (x y z : ℕ) (done : flip23Answer block o
   abbrev t : Row
   t = f .t
 
+  abbrev region : ℕ
+  region = regionOf (pair .removed)
+
   -- its three rows are a ring round a, b
   abbrev round : List Row
-  round = rowsRound (pair .a) (pair .b) (t .q) (t .r) (t .s) (regionOf (pair .removed))
+  round = rowsRound (pair .a) (pair .b) (t .q) (t .r) (t .s) region
 
   abbrev middle : Patch
   middle = record { points = patch .points; rows = pair .kept ++ round }
@@ -128,10 +134,6 @@ module _ (block out other : List ℕ) (x y z : ℕ) (done : flip23Answer block o
   fields-between =
       let made = flip23-accepted block out x y z done in
       patch-is (fieldsOf between) (made .points) (made .rows ∙ ap (λ new. pair .kept ++ new) three-are)
-    where
-      patch-is : (patch : Patch) {points : List Point} {rows : List Row} → patch .points ≡ points → patch .rows ≡ rows
-          → patch ≡ record { points = points; rows = rows }
-      patch-is patch p r = rw (← p, ← r)
 
   rule : T (keepsMeshRule (length (patch .points)) (pair .kept ++ round))
   rule = subst (λ (after : Patch). T (keepsMeshRule (length (patch .points)) (after .rows))) after-is (flips-23 block out x y z done .rule)
@@ -144,7 +146,8 @@ module _ (block out other : List ℕ) (x y z : ℕ) (done : flip23Answer block o
     unfolding pairOf
     none-kept = every-i (λ row. not (holdsEdge (pair .a) (pair .b) row)) (pair .kept) (λ row k.
         let (i, h) = those-e (λ row. not (holdsFace face row)) (patch .rows) k in
-        not-T (holdsEdge (pair .a) (pair .b) row) (λ held. T-not (any (holdsEdge (pair .a) (pair .b)) (patch .rows)) no-row (any-i (holdsEdge (pair .a) (pair .b)) (patch .rows) i held)))
+        let held = holdsEdge (pair .a) (pair .b) in
+        not-T (held row) (λ both. T-not (any held (patch .rows)) no-row (any-i held (patch .rows) i both)))
 
     low-r : t .q ≤ t .r
     low-r = least (t .r) (List·Memᴰ·tail (List·Memᴰ·head refl))
@@ -163,13 +166,13 @@ module _ (block out other : List ℕ) (x y z : ℕ) (done : flip23Answer block o
       opens = flip23-accepted block out x y z done .opens;
       closed =
           rw site-is
-          (three-pass (patch .points) (pair .kept) (pair .a) (pair .b) (t .q) (t .r) (t .s) (regionOf (pair .removed)) (f .less) low-r low-s rule none-kept);
+          (three-pass (patch .points) (pair .kept) (pair .a) (pair .b) (t .q) (t .r) (t .s) region (f .less) low-r low-s rule none-kept);
     }
 
     ring-is : site .ring ≡ t .q ∷ t .r ∷ t .s ∷ []
     ring-is =
         ap (λ (s : Site). s .ring) site-is
-        ∙ ring-three (patch .points) (pair .kept) (pair .a) (pair .b) (t .q) (t .r) (t .s) (regionOf (pair .removed)) (f .less) low-r low-s rule none-kept
+        ∙ ring-three (patch .points) (pair .kept) (pair .a) (pair .b) (t .q) (t .r) (t .s) region (f .less) low-r low-s rule none-kept
 
     three : m site ≡ 3
     three = rw ring-is
@@ -178,7 +181,7 @@ module _ (block out other : List ℕ) (x y z : ℕ) (done : flip23Answer block o
       table-is : tableAfter site (cut side side) ≡ pair .kept ++ two f one-region
       table-is =
           ap (λ s. tableAfter s (cut side side)) site-is
-          ∙ three-table (patch .points) (pair .kept) (pair .a) (pair .b) (t .q) (t .r) (t .s) (regionOf (pair .removed)) (f .less) low-r low-s rule none-kept
+          ∙ three-table (patch .points) (pair .kept) (pair .a) (pair .b) (t .q) (t .r) (t .s) region (f .less) low-r low-s rule none-kept
 
       -- the table with the two rows has the tetrahedra of the first
       same-table : SameTetrahedra (tableAfter site (cut side side)) (patch .rows)
@@ -216,8 +219,8 @@ module _ (block out other : List ℕ) (x y z : ℕ) (done : flip23Answer block o
       unfolding tableAfter siteOf
       back-rows =
           let made = flip32-accepted between other (pair .a) (pair .b) back-answer in
-          let rows : fieldsOf (flip32Bytes between other (pair .a) (pair .b)) .rows ≡ tableAfter site (cut side side) = made .rows ∙ ap (tableAfter site) chosen-is in
-          rw rows same-table
+          let rows = made .rows ∙ ap (tableAfter site) chosen-is in
+          subst (λ rows. SameTetrahedra rows (patch .rows)) (sym rows) same-table
 
 pub brought-back : (block out other : List ℕ) (x y z : ℕ) → Flipped block out other x y z → BroughtBack block out other x y z
 brought-back block out other x y z given = record {

@@ -47,12 +47,12 @@ face-apart count face h =
     let low = every (λ n. ltb n count) face in
     and-r low (different face) (is-yes (low && different face) (not-false (low && different face) h))
 
-module _ (count : ℕ) (patch : Patch) (face : List ℕ) (three : length face ≡ 3) (apart : T (different face)) (rule : T (keepsMeshRule count (patch .rows)))
-    (none : length (pairOf patch face .removed) ≡ 0 → ⊥) (one : length (pairOf patch face .removed) ≡ 1 → ⊥) (ends : pairOf patch face .a ≡ pairOf patch face .b → ⊥) where
+module _ (count : ℕ) (patch : Patch) (face : List ℕ) (three : length face ≡ 3) (apart : T (different face))
+    (rule : T (keepsMeshRule count (patch .rows))) where
   abbrev rows : List Row
   rows = those (holdsFace face) (patch .rows)
 
-  all-over : AllOver count face (smallest face) rows
+  pub all-over : AllOver count face (smallest face) rows
   all-over = record {
     over = λ row k.
         let (k, h) = those-e (holdsFace face) (patch .rows) k in
@@ -61,9 +61,10 @@ module _ (count : ℕ) (patch : Patch) (face : List ℕ) (three : length face �
     once = λ f. omega (arith, keeps-hits count (patch .rows) rule f, count-split (uses f) (holdsFace face) (patch .rows));
   }
 
-  pub facing : Facing count (pairOf patch face) face
+  pub facing : (length (pairOf patch face .removed) ≡ 0 → ⊥) → (length (pairOf patch face .removed) ≡ 1 → ⊥)
+      → (pairOf patch face .a ≡ pairOf patch face .b → ⊥) → Facing count (pairOf patch face) face
   unfolding pairOf
-  facing =
+  facing none one ends =
       let two = the-two count face rows all-over none one ends in
       let both = both-over count face rows all-over none one ends in
       record {

@@ -39,7 +39,8 @@ pub record Over (count : ℕ) (face : List ℕ) (u : ℕ) (row t : Row) : Type 0
   pub outside : {n : ℕ} → List·Memᴰ n (t .q ∷ t .r ∷ t .s ∷ []) → List·Memᴰ n face
   pub used : T (uses (t .q, t .r, t .s) row)
 
-module _ (count : ℕ) (face : List ℕ) (three : length face ≡ 3) (apart : T (different face)) (row : Row) (fit : T (numbersFit count row)) (over : T (holdsFace face row)) where
+module _ (count : ℕ) (face : List ℕ) (three : length face ≡ 3) (apart : T (different face)) (row : Row)
+    (fit : T (numbersFit count row)) (over : T (holdsFace face row)) where
   -- a number of the row that is not of the face
   abbrev free : ℕ → Bool
   free n = not (has face n)
@@ -220,7 +221,8 @@ module _ (face : List ℕ) where
 
 -- ---- both together: the two rows of a 2-3 flip
 
-module _ (count : ℕ) (face : List ℕ) (rows : List Row) (all : AllOver count face (smallest face) rows) (none : length rows ≡ 0 → ⊥) (one : length rows ≡ 1 → ⊥)
+module _ (count : ℕ) (face : List ℕ) (rows : List Row) (all : AllOver count face (smallest face) rows)
+    (none : length rows ≡ 0 → ⊥) (one : length rows ≡ 1 → ⊥)
     (apart : aOf face rows ≡ bOf face rows → ⊥) where
   pub the-two : Picked face rows
   the-two =

@@ -12,7 +12,7 @@ use Rattle.lists.specs.Lists.{every, any, different}
 use Rattle.lists.proofs.Tests.{same-test}
 use Rattle.lists.proofs.Lists.{every-at, every-i, any-same}
 use Rattle.measure.specs.Measure.{worse, worst}
-use Rattle.measure.proofs.Order.{Fraction, Fractions, _⊑_, at-most-trans, Worst, worst-is}
+use Rattle.measure.proofs.Order.{Fraction, _⊑_, at-most-trans, Worst, worst-is}
 use Rattle.measure.specs.declared.Point.{Point}
 use Rattle.mesh.specs.declared.Row.{Row}
 use Rattle.mesh.specs.Mesh.{numbers, rowQuality}
@@ -31,8 +31,7 @@ use Rattle.pieces.specs.Admissible.{admissible, pieceAdmissible}
 use Rattle.pieces.specs.Best.{worstOfWay, ringWays, chosen}
 use Rattle.pieces.proofs.Admissible.{ring-admissible}
 use Rattle.pieces.proofs.Ways.{ways-span}
-use Rattle.pieces.proofs.Worsts.{row-fraction}
-use Rattle.pieces.proofs.Rings.{way-listed, listed-way}
+use Rattle.pieces.proofs.Rings.{rows-fractions, way-listed, listed-way}
 use Rattle.pieces.proofs.Across.{those-across, length-across}
 use Rattle.pieces.proofs.Kindred.{kin, piece-same, worst-same, rows-same}
 use Rattle.patch.specs.Removing.{blockTests, worstNow, noRoom, noWay, noneBetter, patchAfter, totalDiffers, removalTests, removeAnswer, Sound}
@@ -65,7 +64,8 @@ module _ (site other : Site) (three : 3 ≤ m site) (like : Like site other) whe
       let w = listed-way other (omega (arith, like .size)) k in
       let spans : span t ≡ m site - 1 = w .spans ∙ ap (λ n. n - 1) (sym (like .size)) in
       let own = way-listed site three (record { spans = spans; keeps = rw (like .keeps t spans) (w .keeps) }) in
-      let low : worstOfWay site 1 t ⊑ worstNow site = record { not-worse = every-at (λ t. not (worse (worstNow site) (worstOfWay site 1 t))) (ringWays site) h own } in
+      let low : worstOfWay site 1 t ⊑ worstNow site =
+      record { not-worse = every-at (λ t. not (worse (worstNow site) (worstOfWay site 1 t))) (ringWays site) h own } in
       rw (← (like .worst t)) (at-most-trans (like .fraction) low (like .now) .not-worse))
 
 -- ---- the sites of two blocks with the same mesh
@@ -92,7 +92,9 @@ module _ (block other : List ℕ) (e f : ℕ) (same : SameMesh block other) wher
 
   removed-same : SameTetrahedra (site .removed) (its .removed)
   unfolding siteOf
-  removed-same = those-across (holdsEdge (min e f) (max e f)) (edge-even (min e f) (max e f)) (fieldsOf block .rows) (fieldsOf other .rows) (same .tetrahedra)
+  removed-same =
+      those-across (holdsEdge (min e f) (max e f)) (edge-even (min e f) (max e f))
+      (fieldsOf block .rows) (fieldsOf other .rows) (same .tetrahedra)
 
   points-same : its .points ≡ site .points
   unfolding siteOf
@@ -100,7 +102,8 @@ module _ (block other : List ℕ) (e f : ℕ) (same : SameMesh block other) wher
 
   module _ (apart : e ≡ f → ⊥) where
     ring-same : site .ring ≡ its .ring
-    ring-same = Order.same-ring (length (fieldsOf block .points)) (fieldsOf block) (fieldsOf other) e f apart (opens-rule block (same .opens)) (same .tetrahedra)
+    ring-same =
+        Order.same-ring (length (fieldsOf block .points)) (fieldsOf block) (fieldsOf other) e f apart (opens-rule block (same .opens)) (same .tetrahedra)
 
     abbrev kindred : Site
     kindred = kin site (its .removed) (its .kept) (its .links) kept-same
@@ -127,18 +130,15 @@ module _ (block other : List ℕ) (e f : ℕ) (same : SameMesh block other) wher
     room-same = omega (arith, ap length ring-same, length-across (site .kept) (its .kept) kept-same)
 
     module _ (sound : Sound block e f) (its-sound : Sound other e f) where
-      -- the worst row round the edge is no better than any of the other table's
-      rows-fractions : (s : Site) → Fractions (map (rowQuality (s .points)) (s .removed))
-      rows-fractions s q k =
-          let (row, i, same) = Memᴰ·of-map (rowQuality (s .points)) (s .removed) k in
-          subst Fraction same (row-fraction (s .points) row)
-
       worst-of : Worst (worstNow site) (map (rowQuality (site .points)) (site .removed))
-      worst-of = worst-is (map (rowQuality (site .points)) (site .removed)) (rows-fractions site) (worst-now block e f sound)
+      worst-of =
+          worst-is (map (rowQuality (site .points)) (site .removed)) (rows-fractions (site .points) (site .removed)) (worst-now block e f sound)
 
       its-worst : Worst (worstNow its) (map (rowQuality (its .points)) (its .removed))
-      its-worst = worst-is (map (rowQuality (its .points)) (its .removed)) (rows-fractions its) (worst-now other e f its-sound)
+      its-worst =
+          worst-is (map (rowQuality (its .points)) (its .removed)) (rows-fractions (its .points) (its .removed)) (worst-now other e f its-sound)
 
+      -- the worst row round the edge is no better than any of the other table's
       now-most : worstNow site ⊑ worstNow its
       now-most =
           let (row, k, q) = Memᴰ·of-map (rowQuality (its .points)) (its .removed) (its-worst .inside) in
@@ -154,23 +154,25 @@ module _ (block other : List ℕ) (e f : ℕ) (same : SameMesh block other) wher
             ring-admissible site (sound-site block e f sound) t spans three
             ∙ piece-same site (its .removed) (its .kept) (its .links) kept-same 1 t
             ∙ ap (λ s. pieceAdmissible s 1 t) (sym site-kin)
-            ∙ sym (ring-admissible its (sound-site other e f its-sound) t (spans ∙ ap (λ (ring : List ℕ). length ring - 1) ring-same) (omega (arith, ap length ring-same)));
+            ∙ sym (ring-admissible its (sound-site other e f its-sound) t (spans ∙ ap (λ (ring : List ℕ). length ring - 1) ring-same)
+            (omega (arith, ap length ring-same)));
         worst = λ t. worst-same site (its .removed) (its .kept) (its .links) kept-same 1 t ∙ ap (λ s. worstOfWay s 1 t) (sym site-kin);
         now = now-most;
-        fraction = rows-fractions site (worstNow site) (worst-of .inside);
+        fraction = rows-fractions (site .points) (site .removed) (worstNow site) (worst-of .inside);
       }
 
 -- ---- the answers
 
-turned : {block other : List ℕ} → SameMesh block other → SameMesh other block
-turned same = record {
+pub other-way : {block other : List ℕ} → SameMesh block other → SameMesh other block
+other-way same = record {
   opens = same .other-opens;
   other-opens = same .opens;
   points = sym (same .points);
   tetrahedra = λ row. sym (same .tetrahedra row);
 }
 
-module _ (block other : List ℕ) (e f : ℕ) (same : SameMesh block other) (apart : e ≡ f → ⊥) (sound : Sound block e f) (its-sound : Sound other e f) where
+module _ (block other : List ℕ) (e f : ℕ) (same : SameMesh block other) (apart : e ≡ f → ⊥) (sound : Sound block e f)
+    (its-sound : Sound other e f) where
   abbrev left : Site
   left = siteOf (fieldsOf block) e f
 
@@ -187,7 +189,7 @@ module _ (block other : List ℕ) (e f : ℕ) (same : SameMesh block other) (apa
   none-same three =
       let three' : 3 ≤ m right = omega (arith, alike three .size) in
       same-test (noneBetter left) (noneBetter right) (none-to left right three (alike three))
-      (none-to right left three' (like other block e f (turned same) apart its-sound sound three'))
+      (none-to right left three' (like other block e f (other-way same) apart its-sound sound three'))
 
   -- 13 to 16
   abbrev before17 : Site → Tests
@@ -215,7 +217,8 @@ module _ (block other : List ℕ) (e f : ℕ) (same : SameMesh block other) (apa
           refuses 13 (lengthWrong left) _ h ∙ sym (refuses 13 (lengthWrong right) _ (sym (length-same block other e f same apart) ∙ h))
       go false h =
           let three = length-fits left h .0 in
-          same-behind (before17 left) ((17, totalDiffers (fieldsOf block) (patchAfter left)) ∷ []) ((17, totalDiffers (fieldsOf other) (patchAfter right)) ∷ [])
+          same-behind (before17 left)
+          ((17, totalDiffers (fieldsOf block) (patchAfter left)) ∷ []) ((17, totalDiffers (fieldsOf other) (patchAfter right)) ∷ [])
           (λ passes.
           let (a, passes) = passed 12 (lengthWrong left) _ passes in
           let (b, passes) = passed 13 (noRoom left) _ passes in
@@ -268,7 +271,8 @@ edge-then block other out e f same rest its-rest behind =
         let apart = eqb-false e f h in
         let tests = edge-same block other e f same apart in
         same-behind (edges block) rest its-rest
-        (λ closed. behind apart (record { opens = same .opens; closed = closed }) (record { opens = same .other-opens; closed = rw (← tests) closed }))
+        (λ closed.
+        behind apart (record { opens = same .opens; closed = closed }) (record { opens = same .other-opens; closed = rw (← tests) closed }))
         ∙ ap (λ tests. firstRefusal (tests ++ its-rest)) tests
 
 pub any-row-order : (block other out : List ℕ) (e f : ℕ) → SameMesh block other → AnyRowOrder block other out e f

@@ -13,8 +13,7 @@ use Rattle.block.specs.Answers.{openAnswer}
 use Rattle.block.proofs.Right.{right-block}
 use Rattle.ring.specs.Ring.{Site, siteOf, m, numbersWrong}
 use Rattle.ring.specs.Sound.{SoundRing}
-use Rattle.ring.proofs.Rounding.{GoesRound}
-use Rattle.ring.proofs.Sites.{OneCircle, PointFits, tests-passed, numbers-right, site-goes-round, site-size, site-point}
+use Rattle.ring.proofs.Sites.{OneCircle, PointFits, tests-passed, numbers-right, site-size, site-point}
 use Rattle.ring.proofs.Sounding.{sound-ring}
 use Rattle.patch.specs.Removing.{Sound}
 
@@ -42,9 +41,6 @@ module _ (block : List ℕ) (e f : ℕ) (sound : Sound block e f) where
   -- the ring is sound
   pub sound-site : SoundRing theSite
   sound-site = sound-ring (fieldsOf block) e f (ends-fit .2) rule (passes .1)
-
-  pub site-round : GoesRound (theSite .links) (theSite .ring)
-  site-round = site-goes-round pointCountOf (fieldsOf block) e f (ends-fit .2) rule (passes .1)
 
   -- a < b, both below the count
   pub site-ends : (theSite .a < theSite .b) × (theSite .b < pointCountOf)

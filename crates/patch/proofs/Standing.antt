@@ -6,31 +6,26 @@ use mathlib.Core.Path.{_≡_, refl, ap, _∙_}
 use native.Mathlib.Omega.{arith}
 use lib.ListN.{length, getD}
 use Rattle.lists.proofs.Lists.{those-split}
-use Rattle.measure.specs.declared.Point.{Point}
 use Rattle.measure.specs.declared.Quality.{Quality}
 use Rattle.measure.specs.Measure.{worst, zeroQuality}
-use Rattle.measure.specs.Page.{shown, pageRow}
 use Rattle.mesh.specs.declared.Row.{Row}
 use Rattle.mesh.specs.Mesh.{rowQuality}
 use Rattle.lists.proofs.Places.{getD-inside}
-use Rattle.block.specs.Layout.{Patch, fieldsOf}
+use Rattle.block.specs.Layout.{fieldsOf}
 use Rattle.block.specs.Answers.{openAnswer}
-use Rattle.block.proofs.Trip.{read-written, written-read, opens-written, seal-opens}
-use Rattle.ring.specs.Ring.{Site, siteOf, holdsEdge, ringWith}
+use Rattle.ring.specs.Ring.{Site, siteOf, holdsEdge}
 use Rattle.pieces.specs.Triangulation.{regionOf, tableAfter}
 use Rattle.pieces.specs.Best.{chosen}
 use Rattle.pieces.proofs.Rings.{after-length}
 use Rattle.tally.specs.Summing.{qualities, summaryOf, worstOfPatch}
-use Rattle.patch.specs.declared.Removal.the-variants.{Done}
 use Rattle.patch.specs.declared.Summarised.the-variants.{Summary as Summed}
 use Rattle.patch.specs.Summing.{summaryGives}
-use Rattle.patch.specs.Removing.{worstNow, patchAfter, removeAnswer, removeBytes, removeGives, Sound}
-use Rattle.patch.specs.Demands.{Demand2}
+use Rattle.patch.specs.Removing.{worstNow, patchAfter, removeAnswer, removeBytes, Sound}
 use Rattle.patch.proofs.Answering.{removes}
 use Rattle.patch.proofs.Sites.{some-removed}
+use Rattle.patch.proofs.Written.{patch-is}
 use Rattle.patch.proofs.Third.{length-fits, some-way, site-chosen}
-use Rattle.patch.proofs.First.{gives-done}
-use Rattle.patch.proofs.Second.{remove-accepted, flip32-accepted, flip23-accepted}
+use Rattle.patch.proofs.Accepting.{remove-accepted}
 
 -- ---- the summary
 
@@ -80,10 +75,6 @@ module _ (block out : List ℕ) (e f : ℕ) (done : removeAnswer block out e f �
   fields-after =
       let made = remove-accepted block out e f done in
       patch-is (fieldsOf (removeBytes block out e f)) (made .points) (made .rows)
-    where
-      patch-is : (patch : Patch) {points : List Point} {rows : List Row} → patch .points ≡ points → patch .rows ≡ rows
-          → patch ≡ record { points = points; rows = rows }
-      patch-is patch p r = rw (← p, ← r)
 
   -- it opens, and its summary is that of the patch afterwards
   pub summary-after : summaryGives (removeBytes block out e f) ≡ Summed (summaryOf (patchAfter its))
@@ -99,23 +90,3 @@ module _ (block out : List ℕ) (e f : ℕ) (done : removeAnswer block out e f �
       let (t, w) = some-way block e f (r .sound) three (r .way) in
       let best = site-chosen block e f (r .sound) three t w in
       worst-some (rowQuality (its .points)) (tableAfter its (chosen its)) (omega (arith, after-length its (chosen its) (best .way .spans)))
-
--- ---- the second demand, with what is given beside the bytes
-
-page-given : (block out : List ℕ) (e f : ℕ) → removeAnswer block out e f ≡ 0
-    → let before = worstOfPatch (fieldsOf block) in
-    let after = worstOfPatch (fieldsOf (removeBytes block out e f)) in
-    removeGives block out e f ≡ record { removal = Done (pageRow (shown before) (shown after)); ring = ringWith (siteOf (fieldsOf block) e f .ring) }
-page-given block out e f done = rw (fields-after block out e f done) (gives-done block out e f done)
-
-pub demand-2 : Demand2
-demand-2 = record {
-  remove = remove-accepted;
-  flip32 = flip32-accepted;
-  flip23 = flip23-accepted;
-  seal = seal-opens;
-  written-read = written-read;
-  read-written = λ patch kept. (opens-written patch kept, read-written patch (kept .within));
-  summary = summary-opened;
-  page = page-given;
-}

@@ -46,9 +46,11 @@ module _ (block : List ℕ) (e f : ℕ) (sound : Sound block e f) where
   pub site-total : (t : Tri) → span t ≡ m site - 1
       → totalD (fieldsOf block .points) (tableAfter site t) ≡ totalD (fieldsOf block .points) (fieldsOf block .rows)
   unfolding siteOf
-  site-total t spans = table-total site (sound-site block e f sound) (omega (arith, site-length block e f sound)) t spans (fieldsOf block .rows) refl refl
+  site-total t spans =
+      table-total site (sound-site block e f sound) (omega (arith, site-length block e f sound)) t spans (fieldsOf block .rows) refl refl
 
-  pub total-stays : (t : Tri) → span t ≡ m site - 1 → totalDiffers (fieldsOf block) (record { points = site .points; rows = tableAfter site t }) ≡ false
+  pub total-stays : (t : Tri) → span t ≡ m site - 1
+      → totalDiffers (fieldsOf block) (record { points = site .points; rows = tableAfter site t }) ≡ false
   unfolding totalDiffers siteOf
   total-stays t spans = rw (site-total t spans, same-self)
 
@@ -110,7 +112,8 @@ module _ (site : Site) (three : 3 ≤ m site) where
   unfolding noneBetter
   none→ h t w =
       let (row, k, e) = worst-row site three t (w .0) in
-      let own = every-at (λ t. not (worse (worstNow site) (worstOfWay site 1 t))) (ringWays site) h (way-listed site three (record { spans = w .0; keeps = w .1 })) in
+      let listed = way-listed site three (record { spans = w .0; keeps = w .1 }) in
+      let own = every-at (λ t. not (worse (worstNow site) (worstOfWay site 1 t))) (ringWays site) h listed in
       (row, k, subst (λ q. T (not (worse (worstNow site) q))) (sym e) own)
 
   →none : NoneBetter site → T (noneBetter site)
@@ -126,7 +129,7 @@ module _ (site : Site) (three : 3 ≤ m site) where
 -- ---- the demand
 
 -- 13 and 14 are not given
-length-passes : (site : Site) → minRing ≤ m site → m site ≤ maxRing → lengthWrong site ≡ false
+pub length-passes : (site : Site) → minRing ≤ m site → m site ≤ maxRing → lengthWrong site ≡ false
 length-passes site low high = rw (le-ltb (m site) minRing low, le-ltb maxRing (m site) high)
 
 -- 16, or else the next answer
@@ -165,7 +168,10 @@ module _ (block out : List ℕ) (e f : ℕ) (given : Premises block out e f) whe
       last-answers ∙ ap (λ b. given16 (cond b 17 0) (noneBetter its)) (total-stays block e f (given .sound) (chosen its) (best .way .spans))
 
   pub answer-16 : (removeAnswer block out e f ≡ 16) ↔ NoneBetter its
-  answer-16 = (λ h. none→ its three-up (go (noneBetter its) (sym last-answer ∙ h)), λ h. last-answer ∙ ap (given16 0) (yes-is (noneBetter its) (→none its three-up h)))
+  answer-16 = (
+    λ h. none→ its three-up (go (noneBetter its) (sym last-answer ∙ h)),
+    λ h. last-answer ∙ ap (given16 0) (yes-is (noneBetter its) (→none its three-up h)),
+  )
     where
       go : (b : Bool) → given16 0 b ≡ 16 → T b
       go true h = tt

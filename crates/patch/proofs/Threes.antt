@@ -8,8 +8,8 @@ use native.Mathlib.Omega.{arith}
 use borrow.Author.Tests.{lt-ltb, ne-eqb}
 use lib.Dec.{T}
 use lib.ListN.{length}
-use Rattle.lists.specs.Lists.{every, any, those, has, different}
-use Rattle.lists.proofs.Tests.{and-l, and-r, and-i, yes-is, no-is}
+use Rattle.lists.specs.Lists.{every, any, has, different}
+use Rattle.lists.proofs.Tests.{and-i, yes-is}
 use Rattle.lists.proofs.Lists.{every-at, every-i, those-append, every-cons}
 use Rattle.lists.proofs.Numbers.{has-i}
 use Rattle.lists.proofs.Places.{in-cases}
@@ -27,24 +27,8 @@ use Rattle.ring.proofs.Closing.{closes-i}
 use Rattle.ring.proofs.Rounding.{smallest-is}
 use Rattle.pieces.specs.Triangulation.{Tri, side, cut, span, triangles, twoRows, newRows, tableAfter}
 use Rattle.pieces.proofs.Ways.{span-over}
+use Rattle.patch.proofs.Lists.{those-all, those-none}
 use Rattle.patch.proofs.Orders.{ThreeApart, apart-three}
-
--- ---- those that all pass, and those that none does
-
-module _ {A : Type 0} (p : A → Bool) where
-  those-all : (xs : List A) → T (every p xs) → those p xs ≡ xs
-  unfolding those every
-  those-all [] h = refl
-  those-all (x ∷ xs) h =
-      let e = yes-is (p x) (and-l (p x) (every p xs) h) in
-      rw (e, those-all xs (and-r (p x) (every p xs) h))
-
-  those-none : (xs : List A) → T (every (λ x. not (p x)) xs) → those p xs ≡ []
-  unfolding those every
-  those-none [] h = refl
-  those-none (x ∷ xs) h =
-      let e = no-is (p x) (and-l (not (p x)) (every (λ x. not (p x)) xs) h) in
-      rw e (those-none xs (and-r (not (p x)) (every (λ x. not (p x)) xs) h))
 
 -- ---- three links
 
@@ -130,7 +114,8 @@ module _ (points : List Point) (kept : List Row) (a b u v w region : ℕ) (order
     where
       both : (row : Row) {x y : ℕ} → row ≡ record { p = a; q = b; r = x; s = y; region = region } → T (holdsEdge a b row)
       both row e =
-          rw e (and-i (has (a ∷ b ∷ _ ∷ _ ∷ []) a) (has (a ∷ b ∷ _ ∷ _ ∷ []) b) (has-i _ (List·Memᴰ·head refl)) (has-i _ (List·Memᴰ·tail (List·Memᴰ·head refl))))
+          rw e (and-i (has (a ∷ b ∷ _ ∷ _ ∷ []) a) (has (a ∷ b ∷ _ ∷ _ ∷ []) b)
+          (has-i _ (List·Memᴰ·head refl)) (has-i _ (List·Memᴰ·tail (List·Memᴰ·head refl))))
 
   min-is : min a b ≡ a
   min-is = omega arith
@@ -153,18 +138,26 @@ module _ (points : List Point) (kept : List Row) (a b u v w region : ℕ) (order
       let stays : Row → Bool = λ row. not (holdsEdge a b row) in
       rw (min-is, max-is)
       (those-append stays kept new
-      ∙ rw (those-all stays kept none, those-none stays new (every-i (λ row. not (not (holdsEdge a b row))) new (λ row k. twice-not (holdsEdge a b row) (new-hold row k))))
-      (append-nil kept))
+      ∙ rw (those-all stays kept none, those-none stays new (every-i (λ row. not (stays row)) new gone)) (append-nil kept))
     where
       twice-not : (t : Bool) → T t → T (not (not t))
       twice-not true h = tt
       twice-not false h = absurd h
 
+      gone : (row : Row) → List·Memᴰ row new → T (not (not (holdsEdge a b row)))
+      gone row k = twice-not (holdsEdge a b row) (new-hold row k)
+
   three-links : site .links ≡ links u v w points-apart
   unfolding siteOf
   three-links =
       ap (map (link (min a b) (max a b))) three-removed
-      ∙ rw (min-is, max-is, of (List·Memᴰ·head refl), of (List·Memᴰ·tail (List·Memᴰ·head refl)), of (List·Memᴰ·tail (List·Memᴰ·tail (List·Memᴰ·head refl))))
+      ∙ rw (
+        min-is,
+        max-is,
+        of (List·Memᴰ·head refl),
+        of (List·Memᴰ·tail (List·Memᴰ·head refl)),
+        of (List·Memᴰ·tail (List·Memᴰ·tail (List·Memᴰ·head refl))),
+      )
     where
       of : {row : Row} → List·Memᴰ row new → link (row .p) (row .q) row ≡ (row .r, row .s)
       of {row} k = link-is row row (new-proper k) (even-refl row)

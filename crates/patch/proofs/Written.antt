@@ -7,6 +7,7 @@ use native.Mathlib.Omega.{arith}
 use lib.Dec.{T}
 use lib.ListN.{length}
 use Rattle.lists.specs.Lists.{those}
+use Rattle.measure.specs.declared.Point.{Point}
 use Rattle.mesh.specs.declared.Row.{Row}
 use Rattle.mesh.specs.Mesh.{keepsMeshRule, totalD}
 use Rattle.mesh.proofs.Rule.{rule-stated}
@@ -43,3 +44,8 @@ module _ (block : List ℕ) (opened : openAnswer block ≡ 0) (rows : List Row) 
       rule = rw rows-read (rule-stated (length (fieldsOf block .points)) rows rule);
       volume = rw rows-read volume;
     }
+
+-- a patch by its points and rows
+pub patch-is : (patch : Patch) {points : List Point} {rows : List Row} → patch .points ≡ points → patch .rows ≡ rows
+    → patch ≡ record { points = points; rows = rows }
+patch-is patch p r = rw (← p, ← r)

@@ -1,5 +1,6 @@
--- The three demands, word for word, and what they say of the definitions of the calls.
-use Prim.Native.Nat.{ℕ, _+_, _-_, _≤_, min, max}
+-- The three demands, word for word, and what they say of the definitions of the calls; then what document 01 promises beside them of
+-- room, of orders, and of a 3-2 flip after a 2-3 flip.
+use Prim.Native.Nat.{ℕ, _+_, _-_, _≤_, _<_, min, max}
 use mathlib.Core.Bool.{Bool, not}
 use mathlib.Core.List.{List, [], _∷_, _++_, map, List·Memᴰ}
 use mathlib.Core.Logic.{_↔_}
@@ -135,6 +136,16 @@ pub record Demand3 (block out : List ℕ) (e f : ℕ) : Type 0 where
       → let site = siteOf (fieldsOf block) e f in
       (t : Tri) × Way site t × (fieldsOf (removeBytes block out e f) .rows ≡ tableAfter site t)
       × ((u : Tri) → Way site u → T (not (worse (worstOfWay site 1 t) (worstOfWay site 1 u))))
+
+-- ---- Room
+-- "rows afterwards would be over 60"; "58 rows with m = 6 pass, 59 get 14; 60 rows with m = 4 pass."
+
+-- 14 exactly when the rows and m - 4 more are over 60
+abbrev pub Room : Type 0
+Room =
+    (block out : List ℕ) (e f : ℕ) → Sound block e f → length out ≡ blockBytes
+    → let n = m (siteOf (fieldsOf block) e f) in
+    minRing ≤ n → n ≤ maxRing → (removeAnswer block out e f ≡ 14) ↔ (maxRows < length (fieldsOf block .rows) + n - 4)
 
 -- ---- Orders
 -- "The edge's two ends are put in order, a < b; either order given has the same answer."

@@ -51,7 +51,8 @@ module _ (site : Site) (removed kept : List Row) (links : List Link) (same : Sam
 
   -- ---- the new rows, but for the region
 
-  qualities-same : (ts : List Triangle) → map (rowQuality (site .points)) (flatMap (twoRows site) ts) ≡ map (rowQuality (site .points)) (flatMap (twoRows kin) ts)
+  qualities-same : (ts : List Triangle)
+      → map (rowQuality (site .points)) (flatMap (twoRows site) ts) ≡ map (rowQuality (site .points)) (flatMap (twoRows kin) ts)
   unfolding twoRows flatMap rowQuality
   qualities-same [] = refl
   qualities-same (t ∷ ts) = rw (v-same (t .0), v-same (t .1), v-same (t .2), qualities-same ts)

@@ -9,6 +9,7 @@ use lib.Dec.{T}
 use lib.ListN.{length, length-append}
 use Rattle.lists.specs.Lists.{any, those}
 use Rattle.lists.proofs.Lists.{any-e, those-e, those-i, those-split}
+use Rattle.measure.specs.declared.Point.{Point}
 use Rattle.measure.specs.Measure.{worse}
 use Rattle.measure.proofs.Order.{Fraction, Fractions, worst-is}
 use Rattle.mesh.specs.declared.Row.{Row}
@@ -34,6 +35,12 @@ pub record BestWay (site : Site) (c : Tri) : Type 0 where
   pub way : RingWay site c
   pub none-better : (t : Tri) → RingWay site t → T (not (worse (worstOfWay site 1 c) (worstOfWay site 1 t)))
 
+-- the qualities of rows are fractions
+pub rows-fractions : (points : List Point) (rows : List Row) → Fractions (map (rowQuality points) rows)
+rows-fractions points rows q k =
+    let (row, i, same) = Memᴰ·of-map (rowQuality points) rows k in
+    subst Fraction same (row-fraction points row)
+
 -- ---- the list of ways
 
 module _ (site : Site) (three : 3 ≤ m site) where
@@ -55,7 +62,8 @@ module _ (site : Site) (three : 3 ≤ m site) where
   -- law 1
   pub ring-chosen : SoundRing site → (t : Tri) → RingWay site t → BestWay site (chosen site)
   ring-chosen sound t w =
-      let by-faces : (t : Tri) → RingWay site t → T (pieceAdmissible site 1 t) = λ t w. subst T (ring-admissible site sound t (w .spans) three) (w .keeps) in
+      let by-faces : (t : Tri) → RingWay site t → T (pieceAdmissible site 1 t) =
+      λ t w. subst T (ring-admissible site sound t (w .spans) three) (w .keeps) in
       let best = chosen-optimal site 1 (m site) t (omega arith) (w .spans) (by-faces t w) in
       record {
         way = record { spans = best .spans; keeps = rw (ring-admissible site sound (chosen site) (best .spans) three) (best .admissible) };
@@ -63,15 +71,13 @@ module _ (site : Site) (three : 3 ≤ m site) where
       }
 
   -- a way has a row that is its worst
-  pub worst-row : (t : Tri) → span t ≡ m site - 1 → (row : Row) × List·Memᴰ row (newRows site 1 t) × (rowQuality (site .points) row ≡ worstOfWay site 1 t)
+  pub worst-row : (t : Tri) → span t ≡ m site - 1
+      → (row : Row) × List·Memᴰ row (newRows site 1 t) × (rowQuality (site .points) row ≡ worstOfWay site 1 t)
   unfolding span
   worst-row side e = absurd (omega arith)
   worst-row (cut l r) e =
       let rows = newRows site 1 (cut l r) in
-      let fractions : Fractions (map (rowQuality (site .points)) rows) = λ q k.
-      let (row, i, same) = Memᴰ·of-map (rowQuality (site .points)) rows k in
-      subst Fraction same (row-fraction (site .points) row) in
-      let worst = worst-is (map (rowQuality (site .points)) rows) fractions (worst-there site 1 l r) in
+      let worst = worst-is (map (rowQuality (site .points)) rows) (rows-fractions (site .points) rows) (worst-there site 1 l r) in
       Memᴰ·of-map (rowQuality (site .points)) rows (worst .inside)
 
 -- ---- law 16: how many rows

@@ -80,7 +80,8 @@ module _ (site : Site) where
       ∙ ap (λ z. chainD site i l +ℤ z) (sides-chain (i + span l) r)
 
   -- D of a removed row is that of its link
-  link-D : (row : Row) → (site .a ≡ site .b → ⊥) → T (holdsEdge (site .a) (site .b) row) → rowD (site .points) row ≡ ofLink (link (site .a) (site .b) row)
+  link-D : (row : Row) → (site .a ≡ site .b → ⊥) → T (holdsEdge (site .a) (site .b) row)
+      → rowD (site .points) row ≡ ofLink (link (site .a) (site .b) row)
   unfolding link rowD
   link-D row apart h =
       let a = site .a in
@@ -143,7 +144,9 @@ module _ (site : Site) where
     unfolding totalD
     removed-total =
         sum-through (rowD (site .points)) ofLink (link (site .a) (site .b)) (site .removed)
-        (λ row k. link-D row (λ e. omega (arith, sound .chain .ordered)) (those-e (holdsEdge (site .a) (site .b)) (sound .chain .table) (subst (λ rows. List·Memᴰ row rows) (sound .chain .going) k) .1))
+        (λ row k.
+        let both = those-e (holdsEdge (site .a) (site .b)) (sound .chain .table) (subst (λ rows. List·Memᴰ row rows) (sound .chain .going) k) in
+        link-D row (λ e. omega (arith, sound .chain .ordered)) (both .1))
         ∙ ap (sumOver ofLink) (sym (sound .chain .linked))
         ∙ sum-same ofLink (site .links) sides sides-length sides-single sides-linked
         ∙ ap (λ n. ofLink (v site (m site), v site 1) +ℤ sumOver ofLink (sidesFrom 1 n)) (sym spans)

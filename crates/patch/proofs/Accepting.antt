@@ -1,0 +1,123 @@
+-- What an accepted call leaves: law 6 for each call that writes, law 16, and the room of a 3-2 flip.
+use Prim.Native.Nat.{ℕ, _+_, _-_, _≤_, _<_, min, max}
+use mathlib.Core.Bool.{Bool, true, false}
+use mathlib.Core.List.{List, [], _∷_}
+use mathlib.Core.Path.{_≡_, refl, sym, _∙_}
+use native.Mathlib.Omega.{arith}
+use borrow.Author.Tests.{ltb-true, ltb-false, lt-ltb}
+use lib.ListN.{length}
+use Rattle.block.specs.Layout.{maxRows, fieldsOf, bytesOf}
+use Rattle.block.specs.Answers.{Tests, firstRefusal}
+use Rattle.block.proofs.Refusals.{goes-on, refuses}
+use Rattle.block.proofs.Right.{right-block}
+use Rattle.block.proofs.Written.{rows-counted}
+use Rattle.ring.specs.Ring.{Site, siteOf, m, minRing, holdsEdge, lengthWrong}
+use Rattle.pieces.specs.Triangulation.{newRows, tableAfter, rowsAfter}
+use Rattle.pieces.specs.Admissible.{admissible}
+use Rattle.pieces.specs.Best.{chosen}
+use Rattle.pieces.proofs.Rings.{after-length, after-rows}
+use Rattle.patch.specs.Removing.{noRoom, noWay, noneBetter, patchAfter, totalDiffers, removalTests, removeAnswer, removeBytes, Sound}
+use Rattle.patch.specs.Flipping.{flip32Answer, flip32Bytes, holdsFace, pairOf, threeRows, patchAfter23, flip23Answer, flip23Bytes}
+use Rattle.patch.specs.Demands.{Accepted, Room}
+use Rattle.patch.proofs.Answering.{Flips23, removes, remove-left, flips-32, flips-23}
+use Rattle.patch.proofs.Facing.{Facing, face-apart, facing, flipped-total}
+use Rattle.patch.proofs.Sites.{opens-rule, site-length}
+use Rattle.patch.proofs.Written.{accepted}
+use Rattle.patch.proofs.Third.{site-total, length-fits, length-passes, some-way, site-chosen}
+
+module _ (block : List ℕ) (e f : ℕ) (sound : Sound block e f) where
+  abbrev site : Site
+  site = siteOf (fieldsOf block) e f
+
+  -- ---- law 16
+
+  -- the rows afterwards: as many as before, and m - 4
+  pub rows-after : 3 ≤ m site → rowsAfter site ≡ length (fieldsOf block .rows) + m site - 4
+  unfolding siteOf
+  rows-after three = after-rows site (fieldsOf block .rows) refl refl (site-length block e f sound) three
+
+  -- a 3-2 flip always has room
+  pub room-32 : m site ≡ minRing → rowsAfter site ≤ maxRows
+  room-32 three = omega (arith, rows-after (omega arith), rows-counted block, right-block block (sound .opens) .body .few-rows)
+
+  -- ---- what is written, where some way keeps the mesh rule and there is room
+
+  pub site-accepted : 3 ≤ m site → noWay site ≡ false → rowsAfter site ≤ maxRows
+      → Accepted block (bytesOf (patchAfter site)) (holdsEdge (min e f) (max e f)) (newRows site 1 (chosen site))
+  unfolding patchAfter siteOf tableAfter admissible
+  site-accepted three way room =
+      let (t, w) = some-way block e f sound three way in
+      let best = site-chosen block e f sound three t w in
+      let table = tableAfter site (chosen site) in
+      accepted block (sound .opens) table (omega (arith, after-length site (chosen site) (best .way .spans))) (best .way .keeps)
+      (holdsEdge (min e f) (max e f)) (newRows site 1 (chosen site)) refl (site-total block e f sound (chosen site) (best .way .spans))
+
+-- 14 exactly when the rows afterwards would be over 60
+
+not-14 : (way none differs : Bool) → firstRefusal ((15, way) ∷ (16, none) ∷ (17, differs) ∷ []) ≡ 14 → ⊥
+unfolding firstRefusal
+not-14 true none differs h = omega arith
+not-14 false true differs h = omega arith
+not-14 false false true h = omega arith
+not-14 false false false h = omega arith
+
+pub room : Room
+unfolding removalTests
+room block out e f sound size low high = (λ h. go (noRoom its) refl (sym first ∙ h), λ h. first ∙ refuses 14 (noRoom its) _ (over h))
+  where
+    its : Site
+    its = siteOf (fieldsOf block) e f
+
+    rest : Tests
+    rest = (15, noWay its) ∷ (16, noneBetter its) ∷ (17, totalDiffers (fieldsOf block) (patchAfter its)) ∷ []
+
+    first : removeAnswer block out e f ≡ firstRefusal ((14, noRoom its) ∷ rest)
+    first = remove-left block out e f sound size ∙ goes-on 13 (lengthWrong its) _ (length-passes its low high)
+
+    over : maxRows < length (fieldsOf block .rows) + m its - 4 → noRoom its ≡ true
+    over h = lt-ltb maxRows (rowsAfter its) (omega (arith, rows-after block e f sound low))
+
+    go : (b : Bool) → noRoom its ≡ b → firstRefusal ((14, noRoom its) ∷ rest) ≡ 14 → maxRows < length (fieldsOf block .rows) + m its - 4
+    go true h k = omega (arith, ltb-true maxRows (rowsAfter its) h, rows-after block e f sound low)
+    go false h k =
+        absurd (not-14 (noWay its) (noneBetter its) (totalDiffers (fieldsOf block) (patchAfter its)) (sym (goes-on 14 (noRoom its) rest h) ∙ k))
+
+-- ---- the calls
+
+pub remove-accepted : (block out : List ℕ) (e f : ℕ) → removeAnswer block out e f ≡ 0
+    → let site = siteOf (fieldsOf block) e f in
+    Accepted block (removeBytes block out e f) (holdsEdge (min e f) (max e f)) (newRows site 1 (chosen site))
+unfolding removeBytes
+remove-accepted block out e f h =
+    let r = removes block out e f h in
+    let site = siteOf (fieldsOf block) e f in
+    rw h (site-accepted block e f (r .sound) (length-fits site (r .length-right) .0) (r .way) (ltb-false maxRows (rowsAfter site) (r .room)))
+
+pub flip32-accepted : (block out : List ℕ) (e f : ℕ) → flip32Answer block out e f ≡ 0
+    → let site = siteOf (fieldsOf block) e f in
+    Accepted block (flip32Bytes block out e f) (holdsEdge (min e f) (max e f)) (newRows site 1 (chosen site))
+unfolding flip32Bytes
+flip32-accepted block out e f h =
+    let r = flips-32 block out e f h in
+    rw h (site-accepted block e f (r .sound) (omega (arith, r .three)) (r .way) (room-32 block e f (r .sound) (r .three)))
+
+-- the two rows of a 2-3 flip that is not refused
+pub flips-facing : (block out : List ℕ) (x y z : ℕ) → Flips23 block out x y z
+    → Facing (length (fieldsOf block .points)) (pairOf (fieldsOf block) (x ∷ y ∷ z ∷ [])) (x ∷ y ∷ z ∷ [])
+flips-facing block out x y z r =
+    let count = length (fieldsOf block .points) in
+    facing count (fieldsOf block) (x ∷ y ∷ z ∷ []) refl (face-apart count (x ∷ y ∷ z ∷ []) (r .numbers)) (opens-rule block (r .opens))
+    (r .some-row) (r .no-single) (r .apart)
+
+pub flip23-accepted : (block out : List ℕ) (x y z : ℕ) → flip23Answer block out x y z ≡ 0
+    → let face = x ∷ y ∷ z ∷ [] in
+    Accepted block (flip23Bytes block out x y z) (holdsFace face) (threeRows (pairOf (fieldsOf block) face) face)
+unfolding flip23Bytes patchAfter23 pairOf
+flip23-accepted block out x y z h =
+    let r = flips-23 block out x y z h in
+    let face : List ℕ = x ∷ y ∷ z ∷ [] in
+    let patch = fieldsOf block in
+    let pair = pairOf patch face in
+    rw h
+    (accepted block (r .opens) (patchAfter23 patch face .rows) (r .room) (r .rule) (holdsFace face) (threeRows pair face) refl
+    (flipped-total patch face (flips-facing block out x y z r)))
