@@ -34,7 +34,7 @@ both-passed n ((k, b) ∷ xs) ys h e = go b e (both-passed n xs ys (and-r (not (
     go true e f = absurd (eqb-false k n (no-is (eqb k n) (and-l (not (eqb k n)) (unlike n xs) h)) e)
     go false e f = f e
 
-front-passed : (xs ys : Tests) → T (unlike 0 xs) → firstRefusal xs ≡ 0 → firstRefusal (xs ++ ys) ≡ firstRefusal ys
+pub front-passed : (xs ys : Tests) → T (unlike 0 xs) → firstRefusal xs ≡ 0 → firstRefusal (xs ++ ys) ≡ firstRefusal ys
 unfolding firstRefusal every
 front-passed [] ys h e = refl
 front-passed ((k, b) ∷ xs) ys h e = go b e (front-passed xs ys (and-r (not (eqb k 0)) (unlike 0 xs) h))
@@ -58,16 +58,16 @@ same-behind ((k, b) ∷ xs) ys zs f = go b f (same-behind xs ys zs)
 
 -- ---- the block and the edge
 
-block-numbered : (block out : List ℕ) → T (unlike 0 (blockTests block out))
+pub block-numbered : (block out : List ℕ) → T (unlike 0 (blockTests block out))
 unfolding blockTests bodyTests every
 block-numbered block out = tt
 
-front-numbered : (block out : List ℕ) (site : Site) (e f : ℕ) → T (unlike 0 (blockTests block out ++ edgeTests site e f))
+pub front-numbered : (block out : List ℕ) (site : Site) (e f : ℕ) → T (unlike 0 (blockTests block out ++ edgeTests site e f))
 unfolding blockTests bodyTests edgeTests every
 front-numbered block out site e f = tt
 
 -- answers 1 to 8 are not given exactly when the block opens and the output is a block
-block-passed : (block out : List ℕ) → firstRefusal (blockTests block out) ≡ 0 → (openAnswer block ≡ 0) × (length out ≡ blockBytes)
+pub block-passed : (block out : List ℕ) → firstRefusal (blockTests block out) ≡ 0 → (openAnswer block ≡ 0) × (length out ≡ blockBytes)
 unfolding blockTests openAnswer
 block-passed block out e =
     let (a, rest) = passed 0 (notBlock block || notBlock out) _ e in

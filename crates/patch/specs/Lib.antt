@@ -3,3 +3,4 @@ pub mod Removing
 pub mod Flipping
 pub mod Printout
 pub mod Demands
+pub mod Steps

@@ -1,6 +1,18 @@
 // The public calls on a patch block.
+mod carrying;
+mod edges;
+mod flipping32;
+mod planning;
+mod removing;
+mod summing;
+
+pub use block::open;
+pub use block::seal;
+pub use flipping32::flip_32;
 use measure::PageRow;
+pub use removing::remove;
 use ring::Ring;
+pub use summing::summary;
 use tally::Summary;
 
 // What summarising a block gives: the summary, or the number of the refusal.

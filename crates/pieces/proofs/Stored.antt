@@ -7,7 +7,7 @@ use mathlib.Core.Path.{_≡_, refl, sym, ap, ap₂, _∙_, subst}
 use native.Mathlib.Decide.{ℕ-discrete}
 use native.Mathlib.Omega.{arith}
 use lib.Dec.{T}
-use lib.ListN.{length, getD, set}
+use lib.ListN.{length, getD, set, replicate, getD-replicate}
 use lib.Seq.{getD-set-same, getD-set-other}
 use Rattle.lists.specs.Lists.{any}
 use Rattle.lists.proofs.Tests.{or-false}
@@ -25,7 +25,7 @@ use Rattle.pieces.specs.Admissible.{keptUses, diagonalFaces}
 use Rattle.pieces.specs.Best.{bestWorst, apex, cellAt, sameBest}
 use Rattle.pieces.specs.Candidates.{candidate, bestFound}
 use Rattle.pieces.specs.Gathered.{usedBy}
-use Rattle.pieces.specs.Filling.{Arrays, Done, Given, Known, KnownIn, Smaller, apexIn, bestIn, cellOf, cells, choiceOf, coded, codedApex, kindCode}
+use Rattle.pieces.specs.Filling.{Arrays, Blank, Done, Given, Known, KnownIn, Smaller, apexIn, bestIn, cellOf, cells, choiceOf, coded, codedApex, kindCode}
 use Rattle.pieces.specs.Filling.{OnRim, end-a, end-b, ring-point}
 use Rattle.pieces.proofs.Apex.{apex-between}
 use Rattle.pieces.proofs.Cells.{cell-in, cell-apart}
@@ -224,3 +224,30 @@ module _ {site : Site} {filling : Filling} {i j : ℕ} (whole : Whole filling)
   -- the same, as the code has the cell
   pub upto-more : {at : ℕ} {cell : Cell} → at ≡ cellAt i j → cell ≡ cellOf choice → Upto site (put filling at cell closing) i (j + 1)
   upto-more {at} {cell} e c = rw (e, c) upto-put
+
+-- ---- cells that are no piece's
+
+-- no piece is stored in a cell that is no piece's
+pub blank-put : (filling : Filling) (cell : Cell) (closing : Bool) {size i j at : ℕ} → at ≡ cellAt i j → 1 ≤ i → i + 2 ≤ j → j ≤ size → size ≤ maxRing
+    → Blank (filling .kinds) (filling .nums) (filling .dens) (filling .apexes) size
+    → let next = put filling at cell closing in Blank (next .kinds) (next .nums) (next .dens) (next .apexes) size
+blank-put filling cell closing {size} {i} {j} {at} s start long end short blank l e a b c d no-piece =
+    let before = blank l e a b c d no-piece in
+    let there = cellAt l e in
+    let apart : there ≡ at → ⊥ =
+    λ q.
+    let same = cell-apart l e i j a b c d start (omega arith) (omega arith) (omega arith) (q ∙ s) in
+    no-piece (omega (arith, same .0, same .1)) (omega (arith, same .1)) in
+    record {
+      kind = getD-set-other (filling .kinds) at there (cell .kind) 0 apart ∙ before .kind;
+      num = getD-set-other (filling .nums) at there (cell .num) 0 apart ∙ before .num;
+      den = getD-set-other (filling .dens) at there (cell .den) 0 apart ∙ before .den;
+      apex = getD-set-other (filling .apexes) at there (cell .apex) 0 apart ∙ before .apex;
+    }
+
+-- all zeros
+pub blank-start : (size : ℕ) → let zeros : List ℕ = replicate cells 0 in Blank zeros zeros zeros zeros size
+blank-start size l e a b c d no-piece =
+    let zeros : List ℕ = replicate cells 0 in
+    let empty : getD zeros (cellAt l e) 0 ≡ 0 = getD-replicate cells (cellAt l e) 0 0 (cell-in l e a b c d) in
+    record { kind = empty; num = empty; den = empty; apex = empty }

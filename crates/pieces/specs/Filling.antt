@@ -181,6 +181,20 @@ pub record Done (site : Site) (filling : Filling) (i : ℕ) : Type 0 where
       → KnownIn site (filling .kinds) (filling .nums) (filling .dens) (filling .used) l e
   pub apexes : (l e : ℕ) → i ≤ l → l + 2 ≤ e → e ≤ m site → apexIn (filling .apexes) l e ≡ apex site l e
 
+-- ---- cells that are no piece's
+
+-- A cell holds zeros.
+pub record Zero (kinds nums dens apexes : List ℕ) (at : ℕ) : Type 0 where
+  pub kind : getD kinds at 0 ≡ 0
+  pub num : getD nums at 0 ≡ 0
+  pub den : getD dens at 0 ≡ 0
+  pub apex : getD apexes at 0 ≡ 0
+
+-- two neighbouring points make no piece: in the table of a ring of some size, a cell that is no piece's holds zeros
+abbrev pub Blank : List ℕ → List ℕ → List ℕ → List ℕ → ℕ → Type 0
+Blank kinds nums dens apexes size =
+    (l e : ℕ) → 1 ≤ l → l ≤ maxRing → 1 ≤ e → e ≤ maxRing → (l + 2 ≤ e → e ≤ size → ⊥) → Zero kinds nums dens apexes (cellAt l e)
+
 -- ---- what a caller shows
 
 -- the edge (a,b) in a table of n rows over count points

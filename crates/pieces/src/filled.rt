@@ -5,7 +5,7 @@ ghost use lib.ListN.{length, take};
 ghost use Rattle.mesh.specs.Keys.{mostKeys};
 ghost use Rattle.ring.specs.Ring.{Site, m as sizeOf, maxRing};
 ghost use Rattle.pieces.specs.Best.{Keeps};
-ghost use Rattle.pieces.specs.Filling.{Done, Given, Ready, Rimmed, cellOf, kindCode, siteIn};
+ghost use Rattle.pieces.specs.Filling.{Blank, Done, Given, Ready, Rimmed, cellOf, kindCode, siteIn};
 use crate::CELLS;
 use crate::Cell;
 use crate::Choice;
@@ -69,6 +69,8 @@ fn fill_row(
         → m ≡ sizeOf site
         → Done site filling (i + 1)
         → Done site r i) ⌝ }
+    ensures { λ r. ⌜ (Blank (filling .kinds) (filling .nums) (filling .dens) (filling .apexes) m
+        → Blank (r .kinds) (r .nums) (r .dens) (r .apexes) m) ⌝ }
 {
     let mut next = filling;
     for j in i + 2..m + 1 {
@@ -107,6 +109,7 @@ pub fn fill(
 ) -> Pieces
     requires { ⌜ Ready (now coordinates) count (now table) n a b ring ⌝ }
     ensures { λ r. ⌜ Keeps (siteIn (now (coordinates .entry)) count (now (table .entry)) n a b) r ⌝ }
+    ensures { λ r. ⌜ Blank (r .kinds) (r .nums) (r .dens) (r .apexes) (r .m) ⌝ }
 {
     let m = ring.m as usize;
     let v = ring.v;

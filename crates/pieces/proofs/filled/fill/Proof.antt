@@ -4,7 +4,8 @@ use mathlib.Core.Path.{_≡_}
 use native.Mathlib.Omega.{arith}
 use denote.Ref.{now}
 use borrow.Author.Needs.{needs}
-use Rattle.pieces.specs.Filling.{Done, siteIn}
+use Rattle.pieces.specs.Filling.{Blank, Done, siteIn}
+use Rattle.pieces.proofs.Stored.{blank-start}
 use Rattle.pieces.proofs.Sites.{size-is, ring-is, rimmed, given, done-none, done-keeps}
 use Rattle.pieces.proofs.filled.fill.Statement.{statement}
 use Rattle.pieces.proofs.filled.fill.Tie as tie
@@ -12,6 +13,7 @@ use Rattle.pieces.proofs.filled.fill.Tie as tie
 abbrev Inv-loop : tie.InvT-loop
 Inv-loop coordinates count table n a b m v rim kept found filling₀ i₀ filling i =
     (1 ≤ i) × (i < m) × Done (siteIn coordinates count table n a b) filling i
+    × Blank (filling .kinds) (filling .nums) (filling .dens) (filling .apexes) m
 
 abbrev μ-loop : tie.MeasureT-loop
 μ-loop coordinates count table n a b m v rim kept found filling₀ i₀ filling i = i
@@ -40,7 +42,7 @@ loop-holds c =
     let ready = s .pre in
     let e = size-is ready in
     let long = ready .long in
-    (omega (arith, e, long), omega (arith, e, long), done-none (s .args .ring .m - 1) (omega (arith, e, long)))
+    (omega (arith, e, long), omega (arith, e, long), done-none (s .args .ring .m - 1) (omega (arith, e, long)), blank-start (s .args .ring .m))
 
 sub-i-2 : tie.Need-sub-i-2 Inv-loop μ-loop
 sub-i-2 c = omega arith
@@ -69,10 +71,11 @@ loop-again c =
     let back : i - 1 + 1 ≡ i = omega (arith, turn .loop-test .taken) in (
       omega (arith, turn .loop-test .taken),
       omega (arith, l .loop .inv .1),
-      c .fill-row .ensures (siteIn (now (s .args .coordinates)) (s .args .count) (now (s .args .table)) (s .args .n) (s .args .a) (s .args .b))
+      c .fill-row .ensures .0 (siteIn (now (s .args .coordinates)) (s .args .count) (now (s .args .table)) (s .args .n) (s .args .a) (s .args .b))
           (given ready (marks .marks .ensures) (λ j. omega (arith, marks .before .before .before .shared-slice-known2 .given j)) (g .gather .ensures .2))
           (size-is ready)
           (rw back (l .loop .inv .2)),
+      c .fill-row .ensures .1 (l .loop .inv .3),
     )
 
 returns : tie.Need-returns Inv-loop μ-loop
@@ -80,7 +83,7 @@ returns c =
     let l = c .before .before .before .before .before in
     let ready = l .before .before .before .before .before .before .before .before .pre in
     let one : l .loop .i ≡ 1 = omega (arith, l .loop .inv .0, c .before .before .before .before .loop-test .left) in
-    done-keeps (size-is ready) (ring-is ready) (rw one at (l .loop .inv .2))
+    (done-keeps (size-is ready) (ring-is ready) (rw one at (l .loop .inv .2)), l .loop .inv .3)
 
 pub fill-spec : {M : Type 1} → statement M
 fill-spec =

@@ -5,8 +5,8 @@ use native.Mathlib.Omega.{arith}
 use lib.ListN.{length-set, take}
 use borrow.Author.Needs.{needs}
 use Rattle.ring.specs.Ring.{Site, m as sizeOf}
-use Rattle.pieces.specs.Filling.{Done, Given}
-use Rattle.pieces.proofs.Stored.{Upto, Whole, closing-is, upto-start, upto-end, upto-smaller, upto-more}
+use Rattle.pieces.specs.Filling.{Blank, Done, Given}
+use Rattle.pieces.proofs.Stored.{Upto, Whole, closing-is, upto-start, upto-end, upto-smaller, upto-more, blank-put}
 use Rattle.pieces.proofs.filled.fill_row.Statement.{statement}
 use Rattle.pieces.proofs.filled.fill_row.Tie as tie
 
@@ -14,6 +14,7 @@ abbrev Inv-loop : tie.InvT-loop
 Inv-loop coordinates keys n m i rim next₀ j₀ j-end next j =
     (i + 2 ≤ j) × Whole next
     × ((site : Site) → Given site coordinates rim (take n keys) → m ≡ sizeOf site → Done site next₀ (i + 1) → Upto site next i j)
+    × (Blank (next₀ .kinds) (next₀ .nums) (next₀ .dens) (next₀ .apexes) m → Blank (next .kinds) (next .nums) (next .dens) (next .apexes) m)
 
 abbrev μ-loop : tie.MeasureT-loop
 μ-loop coordinates keys n m i rim next₀ j₀ j-end next j = j-end - j
@@ -32,6 +33,7 @@ loop-holds c = (
     all-apexes = search needs;
   },
   λ site given size done. upto-start done,
+  λ blank. blank,
 )
 
 choose-requires : tie.Need-choose-requires Inv-loop μ-loop
@@ -119,10 +121,15 @@ loop-again c =
           (c .uses-diagonal .ensures ∙ closing-is given (omega arith) (omega arith) end)
           (at .cell-at .ensures)
           (cell .cell-of .ensures),
+      λ blank.
+          blank-put (l .loop .next) (cell .cell-of .result) (c .uses-diagonal .result) (at .cell-at .ensures) (omega arith) (omega arith) (omega (arith, turn .loop-test .taken)) (s .pre .1 .2)
+          (l .loop .inv .3 blank),
     )
 
 returns : tie.Need-returns Inv-loop μ-loop
-returns c = λ site given size done. upto-end (omega arith) (c .before .loop .inv .2 site given size done)
+returns c =
+    let inv = c .before .loop .inv in
+    (λ site given size done. upto-end (omega arith) (inv .2 site given size done), inv .3)
 
 pub fill-row-spec : {M : Type 1} → statement M
 fill-row-spec =

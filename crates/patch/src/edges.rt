@@ -1,0 +1,83 @@
+// An edge in a block: the block and the output block are right, the ends are put in order and the ring round them is found.
+ghost use Prim.Native.Nat.{_<_, min, max};
+ghost use mathlib.Core.Path.{_≡_};
+ghost use Rattle.block.specs.Answers.{firstRefusal, answerOf};
+ghost use Rattle.patch.specs.Removing.{blockTests};
+ghost use Rattle.patch.specs.Steps.{edgeFound, foundNone};
+use block::Answer;
+use block::BLOCK_BYTES;
+use block::BODY_BYTES;
+use block::ROWS_AT;
+use ring::Found;
+use ring::Ring;
+
+// Answers 1 to 8 of a call with a block and an output block: both lengths before anything in the block.
+pub fn blocks_answer(block: &[u8], out: &[u8]) -> Answer
+    ensures { λ r. ⌜ r ≡ answerOf (firstRefusal (blockTests (now (block .entry)) (now (out .entry)))) ⌝ }
+{
+    if block.len() != BLOCK_BYTES {
+        return Answer::Refused(1);
+    }
+    if out.len() != BLOCK_BYTES {
+        return Answer::Refused(1);
+    }
+    block::opening(block)
+}
+
+// The smaller end.
+pub fn smaller(e: usize, f: usize) -> u8
+    requires { ⌜ (e < 256) × (f < 256) ⌝ }
+    ensures { λ r. ⌜ r ≡ min e f ⌝ }
+{
+    if e < f {
+        return e as u8;
+    }
+    f as u8
+}
+
+// The larger end.
+pub fn larger(e: usize, f: usize) -> u8
+    requires { ⌜ (e < 256) × (f < 256) ⌝ }
+    ensures { λ r. ⌜ r ≡ max e f ⌝ }
+{
+    if e < f {
+        return f as u8;
+    }
+    e as u8
+}
+
+// A refusal stands beside no ring.
+pub fn no_ring(answer: Answer) -> Found
+    ensures { λ r. ⌜ r ≡ foundNone answer ⌝ }
+{
+    Found {
+        answer,
+        ring: Ring { m: 0, v: [0; 10] },
+    }
+}
+
+// Answers 1 to 13 and, with answer 0, the ring round the edge.
+pub fn edge_at(block: &[u8], out: &[u8], e: usize, f: usize) -> Found
+    ensures { λ r. ⌜ r ≡ edgeFound (now (block .entry)) (now (out .entry)) e f ⌝ }
+{
+    let opened = blocks_answer(block, out);
+    let Answer::Done = opened else {
+        return no_ring(opened);
+    };
+    let count = block[1] as usize;
+    if count <= e {
+        return no_ring(Answer::Refused(9));
+    }
+    if count <= f {
+        return no_ring(Answer::Refused(9));
+    }
+    if e == f {
+        return no_ring(Answer::Refused(9));
+    }
+    ring::find(
+        &block[ROWS_AT..BODY_BYTES],
+        block[2] as usize,
+        smaller(e, f),
+        larger(e, f),
+    )
+}
