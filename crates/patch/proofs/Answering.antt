@@ -170,6 +170,11 @@ flip32-left block out e f sound size = left block out e f _ sound size
 
 -- ---- the 2-3 flip
 
+pub flip23-left : (block out : List ℕ) (x y z : ℕ) → openAnswer block ≡ 0 → length out ≡ blockBytes
+    → flip23Answer block out x y z ≡ firstRefusal (flip23Tests (fieldsOf block) (x ∷ y ∷ z ∷ []))
+unfolding flip23Answer
+flip23-left block out x y z opens size = front-passed (blockTests block out) _ (block-numbered block out) (passed-block block out opens size)
+
 -- What answer 0 of a 2-3 flip says.
 pub record Flips23 (block out : List ℕ) (x y z : ℕ) : Type 0 where
   pub opens : openAnswer block ≡ 0

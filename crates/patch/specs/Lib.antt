@@ -4,3 +4,4 @@ pub mod Flipping
 pub mod Printout
 pub mod Demands
 pub mod Steps
+pub mod Pairing

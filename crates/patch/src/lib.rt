@@ -1,6 +1,7 @@
 // The public calls on a patch block.
 mod carrying;
 mod edges;
+mod flipping;
 mod flipping32;
 mod planning;
 mod removing;
@@ -8,6 +9,7 @@ mod summing;
 
 pub use block::open;
 pub use block::seal;
+pub use flipping::flip_23;
 pub use flipping32::flip_32;
 use measure::PageRow;
 pub use removing::remove;
