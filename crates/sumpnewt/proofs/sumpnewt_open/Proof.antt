@@ -1,0 +1,24 @@
+-- `sumpnewt_open` hands on the number of opening.
+use borrow.Author.Needs.{needs}
+use mathlib.Core.Path.{_∙_, ap}
+use Rattle.block.specs.declared.Opened.{Opened}
+use Rattle.block.specs.Answers.{numberOf}
+use Rattle.patch.proofs.First.{demand-1}
+use Rattle.sumpnewt.proofs.sumpnewt_open.Statement.{statement}
+use Rattle.sumpnewt.proofs.sumpnewt_open.Tie as tie
+
+open-requires : tie.Need-open-requires
+open-requires c κs = search needs
+
+number-of-requires : tie.Need-number-of-requires
+number-of-requires c κs = search needs
+
+returns : tie.Need-returns
+returns c =
+    let opened = c .before in
+    c .number-of .ensures
+    ∙ ap (λ (gives : Opened). numberOf (gives .answer)) (opened .open .ensures)
+    ∙ demand-1 .open-number (opened .before .before .args .block .now)
+
+pub sumpnewt-open-spec : {M : Type 1} → statement M
+sumpnewt-open-spec = tie.close (tie.spec open-requires number-of-requires returns)

@@ -1,0 +1,22 @@
+-- `sumpnewt_seal` hands on the number and the bytes of the call behind it.
+use borrow.Author.Needs.{needs}
+use Rattle.sumpnewt.proofs.Handed.{handed}
+use Rattle.sumpnewt.proofs.sumpnewt_seal.Statement.{statement}
+use Rattle.sumpnewt.proofs.sumpnewt_seal.Tie as tie
+
+seal-requires : tie.Need-seal-requires
+seal-requires c κs = search needs
+
+number-of-requires : tie.Need-number-of-requires
+number-of-requires c κs = search needs
+
+same-length : tie.Need-same-length
+same-length c = search needs
+
+returns : tie.Need-returns
+returns c =
+    let call = c .before .before .before in
+    (handed _ _ _ (c .number-of .ensures) (call .seal .ensures .0), call .seal .ensures .1)
+
+pub sumpnewt-seal-spec : {M : Type 1} → statement M
+sumpnewt-seal-spec = tie.close (tie.spec seal-requires number-of-requires same-length returns)
