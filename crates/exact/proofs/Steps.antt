@@ -2,7 +2,7 @@
 use Prim.Native.Nat.{ℕ, _*_, _/_, _%_, _<_, _≤_}
 use mathlib.Core.Bool.{Bool, true, false, not}
 use mathlib.Core.Path.{_≡_, sym, ap, ap₂}
-use native.Mathlib.Nat.{mul-comm, mul-pos, mod-lt, div-add-mod', mul-le-mul-right, mul-lt-mul-of-pos-right}
+use native.Mathlib.Nat.{le-of-lt, mul-comm, mul-pos, mod-lt, div-add-mod', mul-le-mul-right, mul-lt-mul-of-pos-right}
 use native.Mathlib.Omega.{arith}
 use lib.Dec.{T, ltb, ltb→lt, nltb→le}
 use borrow.Author.Tests.{lt-ltb, le-ltb}
@@ -53,3 +53,10 @@ module _ (n1 d1 n2 d2 : ℕ) where
       let right = ap (λ (x : ℕ). x * d1) (div-add-mod' n2 d2) in
       let parts = ap (λ (x : ℕ). x * (d1 * d2)) e in
       as-test (d2 * (n1 % d1)) (d1 * (n2 % d2)) (n1 * d2) (n2 * d1) (λ h. omega arith) (λ h. omega arith)
+
+-- whole parts that differ decide
+pub other-part : (n1 d1 n2 d2 : ℕ) → 0 < d1 → 0 < d2 → (n1 / d1 ≡ n2 / d2 → ⊥) → ltb (n1 / d1) (n2 / d2) ≡ isLess n1 d1 n2 d2
+other-part n1 d1 n2 d2 p1 p2 other =
+    as-test (n1 / d1) (n2 / d2) (n1 * d2) (n2 * d1)
+    (smaller-part n1 d1 n2 d2 p1 p2)
+    (λ h. le-of-lt (smaller-part n2 d2 n1 d1 p2 p1 (omega (arith, h, other))))

@@ -25,13 +25,10 @@ pub fn less(n1: u64, d1: u64, n2: u64, d2: u64) -> bool
     }
     let q1 = n1 / d1;
     let q2 = n2 / d2;
-    if q1 < q2 {
-        return true;
+    if q1 == q2 {
+        return less(d2, n2 % d2, d1, n1 % d1);
     }
-    if q2 < q1 {
-        return false;
-    }
-    less(d2, n2 % d2, d1, n1 % d1)
+    q1 < q2
 }
 
 // n / d rounded up; 0 where d is 0.

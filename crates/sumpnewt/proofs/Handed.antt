@@ -82,9 +82,11 @@ module _ (block out : List ℕ) (e f : ℕ) (removed : Removed) (gives : removed
 
   pub page-refused : (n : ℕ) → removed .removal ≡ Removes.Refused n → (removeAnswer block out e f ≡ n) × (n ≡ 0 → ⊥)
   page-refused n refused =
-      let number = number-given ∙ ap removalNumber refused in
-      (number, λ none. let o = ap (λ (r : Removed). r .removal) (gives ∙ gives-done block out e f (number ∙ none)) in
-      let w : _≡_ {A = ℕ} 0 1 = cc in omega arith)
+      let number = number-given ∙ ap removalNumber refused in (
+        number,
+        λ none. let o = ap (λ (r : Removed). r .removal) (gives ∙ gives-done block out e f (number ∙ none)) in
+            let w : _≡_ {A = ℕ} 0 1 = cc in omega arith,
+      )
 
   pub page-done : (page : PageRow) → removed .removal ≡ Removes.Done page → (removeAnswer block out e f ≡ 0) × (page ≡ pageOf block e f)
   page-done page done =

@@ -6,7 +6,7 @@ use native.Mathlib.Omega.{arith}
 use borrow.Author.Tests.{lt-ltb, le-ltb}
 use borrow.Fn.Kinds.{In}
 use borrow.Fn.PlainCycle.{Measures, is, falls, and}
-use Rattle.exact.proofs.Steps.{none-over, over-all, below-one, smaller-part, turned-over, same-part}
+use Rattle.exact.proofs.Steps.{none-over, over-all, below-one, other-part, turned-over, same-part}
 use Rattle.exact.proofs.less.Reads as less
 use Rattle.exact.proofs.less.Kinds as less-kinds
 use Rattle.exact.proofs.+less.Lts-less as less-lts
@@ -56,16 +56,6 @@ less-div-q1 t c = omega arith
 less-div-q2 : (t : ℕ) → less-lts.Need-div-q2 (less-below t, less.Post) (less-at t) less.Post
 less-div-q2 t c = omega arith
 
-less-returns-6 : (t : ℕ) → less-lts.Need-returns-6 (less-below t, less.Post) (less-at t) less.Post
-less-returns-6 t c =
-    let a = c .before .before .before .before .before .args in
-    sym (lt-ltb (a .n1 * a .d2) (a .n2 * a .d1) (smaller-part (a .n1) (a .d1) (a .n2) (a .d2) (omega arith) (omega arith) (omega arith)))
-
-less-returns-7 : (t : ℕ) → less-lts.Need-returns-7 (less-below t, less.Post) (less-at t) less.Post
-less-returns-7 t c =
-    let a = c .before .before .before .before .before .before .args in
-    sym (le-ltb (a .n1 * a .d2) (a .n2 * a .d1) (le-of-lt (smaller-part (a .n2) (a .d2) (a .n1) (a .d1) (omega arith) (omega arith) (omega arith))))
-
 less-rem-less : (t : ℕ) → less-lts.Need-rem-less (less-below t, less.Post) (less-at t) less.Post
 less-rem-less t c = omega arith
 
@@ -74,15 +64,20 @@ less-rem-less-2 t c = omega arith
 
 less-less-requires-2 : (t : ℕ) → less-lts.Need-less-requires-2 (less-below t, less.Post) (less-at t) less.Post
 less-less-requires-2 t c κs =
-    let a = c .before .before .before .before .before .before .args in
+    let a = c .before .before .before .before .before .args in
     let fall1 = mod-lt (a .n1) {m = a .d1} (omega arith) in
     let fall2 = mod-lt (a .n2) {m = a .d2} (omega arith) in
     (omega arith, tt)
 
-less-returns-8 : (t : ℕ) → less-lts.Need-returns-8 (less-below t, less.Post) (less-at t) less.Post
-less-returns-8 t c =
-    let a = c .before .before .before .before .before .before .before .args in
+less-returns-6 : (t : ℕ) → less-lts.Need-returns-6 (less-below t, less.Post) (less-at t) less.Post
+less-returns-6 t c =
+    let a = c .before .before .before .before .before .before .args in
     c .less2 .ensures ∙ same-part (a .n1) (a .d1) (a .n2) (a .d2) (omega arith)
+
+less-returns-7 : (t : ℕ) → less-lts.Need-returns-7 (less-below t, less.Post) (less-at t) less.Post
+less-returns-7 t c =
+    let a = c .before .before .before .before .before .args in
+    other-part (a .n1) (a .d1) (a .n2) (a .d2) (omega arith) (omega arith) (λ same. omega (arith, same))
 
 pub +less-spec : {M : Type 1} → statement M
 +less-spec =
@@ -100,9 +95,8 @@ pub +less-spec : {M : Type 1} → statement M
     (less-returns-5 t)
     (less-div-q1 t)
     (less-div-q2 t)
-    (less-returns-6 t)
-    (less-returns-7 t)
     (less-rem-less t)
     (less-rem-less-2 t)
     (less-less-requires-2 t)
-    (less-returns-8 t)
+    (less-returns-6 t)
+    (less-returns-7 t)

@@ -1,0 +1,159 @@
+/*
+ * Sumpnewt: takes a patch of tetrahedra and one edge, and replaces the tetrahedra round that edge by the best possible
+ * ones, or refuses with a number. It never moves a point and never chooses the edge.
+ *
+ * Link with libsumpnewt.a (README.md, "Calling it from C and Rust"). It needs nothing but memcpy and memset.
+ *
+ * THE PATCH BLOCK, 512 bytes
+ *
+ *   byte       meaning
+ *   0          version, 1
+ *   1          points, 0 to 64
+ *   2          rows, 0 to 60
+ *   3..15      zero
+ *   16..207    64 points of 3 bytes: x, y, z, each 0 to 128
+ *   208..507   60 rows of 5 bytes: four point numbers, then the region, 0 to 255
+ *   508, 509   first sum, low byte first
+ *   510, 511   second sum, low byte first
+ *
+ * Bytes of points and rows beyond the counts are zero. Both sums start at 0 and wrap at 65,536; for bytes 0 to 507 in
+ * order the byte is added to the first sum, and then the first sum to the second. sumpnewt_seal writes them.
+ *
+ * A row (p,q,r,s) is upright if the determinant D with the rows p-s, q-s, r-s is over 0, flat if it is 0, inverted if it
+ * is below. Flat and inverted rows are allowed, and two points may share a place. Mesh rule: the numbers of a row are
+ * below the point count and all different, and no directed face stands in two rows; the directed faces of a row are
+ * (q,r,s), (p,s,r), (p,q,s), (p,r,q), each the same when its numbers are turned round in a circle.
+ *
+ * THE QUALITY of a row is 432 D^2 / S^3 with the sign of D, S being the sum of the six squared edge lengths: 1 for a
+ * regular tetrahedron, 0 for a flat one. Better and worse are decided on the exact fractions. The score is 1000 times the
+ * cube root of the quality of an upright row, rounded down, and 0 for any other row.
+ *
+ * EVERY CALL
+ *
+ * Returns: 0 if it is done, else the number of the refusal, the first in this file's order of what is wrong.
+ * Refusals: unless the number is 0, every element of the output stays as it came.
+ * Inputs: every length and every number has an answer; nothing has to be looked at before a call. A pointer is to as many
+ *     elements as the length beside it says; with length 0 it is not used and may be a null pointer.
+ * Overlap: the output must not overlap the input. To replace a block by its result, copy it first or write into a second
+ *     block.
+ * Threads: a call keeps nothing between calls and touches only its arguments, so calls may run in any number of threads
+ *     at once, as long as no other thread writes to their arguments meanwhile.
+ * Memory: no heap; less than 16 KiB of stack (docs/BENCHMARK.md has what was measured).
+ * Time: bounded for every input; docs/BENCHMARK.md has the times.
+ */
+#ifndef SUMPNEWT_H
+#define SUMPNEWT_H
+
+#include <stddef.h>
+#include <stdint.h>
+
+#ifdef __cplusplus
+extern "C" {
+#endif
+
+/* Lengths, in elements. */
+#define SUMPNEWT_BLOCK_BYTES 512     /* a block */
+#define SUMPNEWT_FIELDS_BYTES 508    /* what is sealed: a block without its sums */
+#define SUMPNEWT_SUMMARY_ELEMENTS 7  /* a summary */
+#define SUMPNEWT_PAGE_ELEMENTS 2     /* a page row */
+
+/* Where a block has what. */
+#define SUMPNEWT_VERSION 1
+#define SUMPNEWT_MAX_POINTS 64
+#define SUMPNEWT_MAX_ROWS 60
+#define SUMPNEWT_MAX_COORDINATE 128
+#define SUMPNEWT_POINTS_AT 16
+#define SUMPNEWT_POINT_BYTES 3
+#define SUMPNEWT_ROWS_AT 208
+#define SUMPNEWT_ROW_BYTES 5
+
+/* The answers, in the order in which they are tested. */
+enum {
+    SUMPNEWT_DONE = 0,
+    SUMPNEWT_LENGTH = 1,         /* a length is not the one it must be */
+    SUMPNEWT_SUM = 2,            /* a sum is wrong */
+    SUMPNEWT_NOT_VERSION_1 = 3,  /* the version is not 1 */
+    SUMPNEWT_COUNT = 4,          /* a count is over its limit */
+    SUMPNEWT_NOT_ZERO = 5,       /* a byte that must be zero is not */
+    SUMPNEWT_COORDINATE = 6,     /* a coordinate is over 128 */
+    SUMPNEWT_ROW = 7,            /* a row's number is not below the point count, or repeats */
+    SUMPNEWT_FACE_TWICE = 8,     /* a directed face stands in two rows */
+    SUMPNEWT_BAD_NUMBER = 9,     /* an edge or face number is not below the point count, or equal to another */
+    SUMPNEWT_NOT_HELD = 10,      /* no row holds the edge or face */
+    SUMPNEWT_NOT_CLOSED = 11,    /* the tetrahedra round the edge do not all close (face: only one row) */
+    SUMPNEWT_CIRCLES = 12,       /* they make more than one closed circle */
+    SUMPNEWT_RING_LENGTH = 13,   /* they are fewer than 3 or more than 10 (3-2 flip: not 3) */
+    SUMPNEWT_ONE_APEX = 18,      /* 2-3 flip: both apexes are one point */
+    SUMPNEWT_NO_ROOM = 14,       /* rows afterwards would be over 60 */
+    SUMPNEWT_BLOCKED = 15,       /* no triangulation is admissible (2-3 flip: the mesh rule would break) */
+    SUMPNEWT_NONE_BETTER = 16,   /* removal: each makes a tetrahedron no better than the worst round the edge now */
+    SUMPNEWT_TOTAL_DIFFERS = 17  /* removal: a guard; proved never to come */
+};
+
+/* The elements of a summary. */
+enum {
+    SUMPNEWT_UPRIGHT,     /* rows with D over 0 */
+    SUMPNEWT_FLAT,        /* rows with D = 0 */
+    SUMPNEWT_INVERTED,    /* rows with D below 0 */
+    SUMPNEWT_HAS_WORST,   /* 1 if there is a worst score, 0 for a patch with no rows */
+    SUMPNEWT_WORST,       /* the score of the worst row, 0 to 1000; 0 if there is none */
+    SUMPNEWT_HAS_OCTAVE,  /* 1 if there is an octave, 0 for a patch with no upright row */
+    SUMPNEWT_OCTAVE       /* largest e with 2^e * n <= the sum of badness over the n upright rows; 0 if there is none.
+                             The badness of a row is the inverse of its quality, rounded up. */
+};
+
+/* The elements of a page row: the quality of the patch's worst row as one quotient, below 0 for an inverted row. */
+enum {
+    SUMPNEWT_WORST_BEFORE,
+    SUMPNEWT_WORST_AFTER
+};
+
+/*
+ * Opens a block: is everything in it as it must be?
+ * Answers 0 to 8.
+ */
+uint32_t sumpnewt_open(const uint8_t *block, size_t n);
+
+/*
+ * Seals the first 508 bytes of a block: writes them and their two sums as the 512 bytes of `out`.
+ * n must be 508 and out_n 512. Answers 0, 1, 3 to 8.
+ */
+uint32_t sumpnewt_seal(const uint8_t *fields, size_t n, uint8_t *out, size_t out_n);
+
+/*
+ * Summarises a patch: counts of upright, flat and inverted rows, worst score, octave.
+ * out_n must be 7. Answers 0 to 8; 1 also for out_n.
+ */
+uint32_t sumpnewt_summary(const uint8_t *block, size_t n, uint64_t *out, size_t out_n);
+
+/*
+ * Removes the edge between the points numbered a and b, in either order: of all ways to fill the room round it without
+ * the edge that keep the mesh rule, the one whose worst tetrahedron is best, if that is better than the worst there now.
+ * The new block has the kept rows in order, then the new rows with the region of the first removed row; points stay.
+ * out_n must be 512. Answers 0 to 17.
+ */
+uint32_t sumpnewt_remove(const uint8_t *block, size_t n, size_t a, size_t b, uint8_t *out, size_t out_n);
+
+/*
+ * The page row of that removal: the worst row of the whole patch before and after it. The block afterwards is not
+ * written. row_n must be 2. Answers as sumpnewt_remove does; 1 for row_n.
+ */
+uint32_t sumpnewt_page(const uint8_t *block, size_t n, size_t a, size_t b, double *row, size_t row_n);
+
+/*
+ * Flips the three rows round the edge between a and b to two, whatever their quality.
+ * out_n must be 512. Answers 0 to 13 and 15; 13 unless there are exactly three.
+ */
+uint32_t sumpnewt_flip_32(const uint8_t *block, size_t n, size_t a, size_t b, uint8_t *out, size_t out_n);
+
+/*
+ * Flips the two rows at the face u, v, w, in any order, to three, whatever their quality.
+ * out_n must be 512. Answers 0 to 11, 18, 14 and 15.
+ */
+uint32_t sumpnewt_flip_23(const uint8_t *block, size_t n, size_t u, size_t v, size_t w, uint8_t *out, size_t out_n);
+
+#ifdef __cplusplus
+}
+#endif
+
+#endif
