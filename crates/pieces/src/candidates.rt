@@ -110,7 +110,8 @@ fn beside(side: Side, worst: Quality) -> Best
     }
 }
 
-// The best worst of a piece with this triangle, or the mark, if no admissible triangulation has it.
+// The best worst of a piece with this triangle, or the mark, if no admissible triangulation has it. A side that cannot be
+// taken is looked at before anything is measured.
 fn candidate(
     coordinates: &[u8],
     keys: &[u32; MOST_KEYS],
@@ -122,6 +123,12 @@ fn candidate(
     requires { ⌜ (length (now keys) ≡ mostKeys) × (n ≤ mostKeys) × Reaching (now coordinates) rows ⌝ }
     ensures { λ r. ⌜ bestOf r ≡ candidateOver (now (coordinates .entry)) (take n (now (keys .entry))) rows left right ⌝ }
 {
+    if let Side::Closed = left {
+        return Best::Mark;
+    }
+    if let Side::Closed = right {
+        return Best::Mark;
+    }
     if uses_either(keys, n, rows.x, rows.y, rows.z) {
         return Best::Mark;
     }

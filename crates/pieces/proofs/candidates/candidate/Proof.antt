@@ -1,16 +1,59 @@
--- `candidate` is the definition's, test by test.
-use mathlib.Core.Path.{sym, _∙_}
+-- `candidate` is the definition's, test by test: with a closed side it is the mark, whatever the rest.
+use Prim.Native.Nat.{ℕ}
+use mathlib.Core.Bool.{Bool, true, false, cond}
+use mathlib.Core.List.{List}
+use mathlib.Core.Option.{Option, some, none}
+use mathlib.Core.Path.{_≡_, refl, sym, subst, _∙_}
 use borrow.Author.Needs.{needs}
-use Rattle.pieces.specs.Filling.{candidateOver}
+use Rattle.measure.specs.declared.Quality.{Quality}
+use Rattle.pieces.specs.declared.Bipyramid.{Bipyramid}
+use Rattle.pieces.specs.declared.Side.{Side}
+use Rattle.pieces.specs.declared.Side.the-variants.{Closed}
+use Rattle.pieces.specs.Gathered.{usedBy}
+use Rattle.pieces.specs.Filling.{besideOf, worstOver, candidateOver}
 use Rattle.pieces.proofs.candidates.candidate.Statement.{statement}
 use Rattle.pieces.proofs.candidates.candidate.Tie as tie
+
+abbrev mark : Option Quality
+mark = none
+
+mark-either-way : (b : Bool) → mark ≡ cond b mark mark
+mark-either-way true = refl
+mark-either-way false = refl
+
+right-marked : (b : Bool) (beside : Option Quality) → mark ≡ cond b mark (elim beside [ none ↦ mark | some q ↦ besideOf Closed q ])
+right-marked b none = mark-either-way b
+right-marked b (some q) = mark-either-way b
+
+module _ (coordinates keys : List ℕ) (rows : Bipyramid) (left right : Side) where
+  left-closed : left ≡ Closed → mark ≡ candidateOver coordinates keys rows left right
+  unfolding candidateOver
+  left-closed closed = rw closed (mark-either-way (usedBy keys (rows .x, rows .y, rows .z)))
+
+  right-closed : right ≡ Closed → mark ≡ candidateOver coordinates keys rows left right
+  unfolding candidateOver
+  right-closed closed =
+      subst (λ (side : Side). mark ≡ candidateOver coordinates keys rows left side) (sym closed)
+      (right-marked (usedBy keys (rows .x, rows .y, rows .z)) (besideOf left (worstOver coordinates rows)))
+
+enum-told : tie.Need-enum-told
+enum-told c = search needs
+
+returns : tie.Need-returns
+returns c = left-closed _ _ _ _ _ (c .enum-told .given .1)
+
+enum-told-2 : tie.Need-enum-told-2
+enum-told-2 c = search needs
+
+returns-2 : tie.Need-returns-2
+returns-2 c = right-closed _ _ _ _ _ (c .enum-told2 .given .1)
 
 uses-either-requires : tie.Need-uses-either-requires
 uses-either-requires c κs = search needs
 
-returns : tie.Need-returns
+returns-3 : tie.Need-returns-3
 unfolding candidateOver
-returns c = rw (sym (c .before .uses-either .ensures) ∙ c .if1 .taken)
+returns-3 c = rw (sym (c .before .uses-either .ensures) ∙ c .if1 .taken)
 
 worst-of-two-requires : tie.Need-worst-of-two-requires
 worst-of-two-requires c κs = search needs
@@ -21,23 +64,23 @@ beside-requires c κs = search needs
 enum-known-q : tie.Need-enum-known-q
 enum-known-q c = search needs
 
-enum-told : tie.Need-enum-told
-enum-told c = search needs
+enum-told-3 : tie.Need-enum-told-3
+enum-told-3 c = search needs
 
-returns-2 : tie.Need-returns-2
+returns-4 : tie.Need-returns-4
 unfolding candidateOver
-returns-2 c =
+returns-4 c =
     let b = c .before .before in
     let w = b .before in
     let e = w .before in
-    rw (sym (e .before .uses-either .ensures) ∙ e .if1 .left, ← w .worst-of-two .ensures, ← b .beside .ensures, c .enum-told .given .1)
+    rw (sym (e .before .uses-either .ensures) ∙ e .if1 .left, ← w .worst-of-two .ensures, ← b .beside .ensures, c .enum-told3 .given .1)
 
 beside-requires-2 : tie.Need-beside-requires-2
 beside-requires-2 c κs = search needs
 
-returns-3 : tie.Need-returns-3
+returns-5 : tie.Need-returns-5
 unfolding candidateOver
-returns-3 c =
+returns-5 c =
     let q = c .before .before in
     let b = q .before .before in
     let w = b .before in
@@ -49,12 +92,16 @@ pub candidate-spec : {M : Type 1} → statement M
 candidate-spec =
     tie.close
     (tie.spec
-    uses-either-requires
+    enum-told
     returns
+    enum-told-2
+    returns-2
+    uses-either-requires
+    returns-3
     worst-of-two-requires
     beside-requires
     enum-known-q
-    enum-told
-    returns-2
+    enum-told-3
+    returns-4
     beside-requires-2
-    returns-3)
+    returns-5)
