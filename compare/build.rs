@@ -1,16 +1,21 @@
-//! Links the kernel's archive into the benchmark. Nothing else of the package needs it.
+//! Links the archives of the kernel that compare/archive has written. What needs one that is not there says so.
 
 use std::path::Path;
 
+/// Each archive, and the cfg by which the code asks whether it is linked.
+const ARCHIVES: [(&str, &str); 2] = [("sumpnewt", "kernel"), ("probes", "probes")];
+
 fn main() {
     println!("cargo::rerun-if-changed=build.rs");
-    if std::env::var_os("CARGO_FEATURE_KERNEL").is_none() {
-        return;
-    }
-    let archive = Path::new(env!("CARGO_MANIFEST_DIR")).join("../target/native/libprobes.a");
-    println!("cargo::rerun-if-changed={}", archive.display());
-    match archive.canonicalize() {
-        Ok(found) => println!("cargo::rustc-link-arg-bin=bench={}", found.display()),
-        Err(_) => println!("cargo::error=no archive of the kernel: run compare/archive probes"),
+    let folder = Path::new(env!("CARGO_MANIFEST_DIR")).join("../target/native");
+    println!("cargo::rustc-link-search=native={}", folder.display());
+    for (name, cfg) in ARCHIVES {
+        let archive = folder.join(format!("lib{name}.a"));
+        println!("cargo::rustc-check-cfg=cfg({cfg})");
+        println!("cargo::rerun-if-changed={}", archive.display());
+        if archive.exists() {
+            println!("cargo::rustc-cfg={cfg}");
+            println!("cargo::rustc-link-lib=static={name}");
+        }
     }
 }

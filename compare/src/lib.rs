@@ -2,9 +2,15 @@
 //!
 //! `model` renders document 01 by brute force, written for obviousness. `gen` makes seeded cases,
 //! `rivals` are kernels that get one thing wrong, `tally` counts what the cases cover, and `quick` is what
-//! the benchmark holds the kernel's inner functions against.
+//! the benchmark holds the kernel against. `kernel` is the kernel itself behind its C boundary and `held` holds it to
+//! the model; both are there if its archive is.
 
+pub mod arguments;
 pub mod gen;
+#[cfg(kernel)]
+pub mod held;
+#[cfg(kernel)]
+pub mod kernel;
 pub mod model;
 pub mod quick;
 pub mod rivals;

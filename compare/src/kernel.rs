@@ -1,0 +1,111 @@
+//! The kernel itself, through its C boundary (include/sumpnewt.h): there if compare/archive sumpnewt was run.
+
+use crate::model::{Call, Outcome};
+
+mod c {
+    extern "C" {
+        pub fn sumpnewt_open(block: *const u8, n: usize) -> u32;
+        pub fn sumpnewt_seal(fields: *const u8, n: usize, out: *mut u8, out_n: usize) -> u32;
+        pub fn sumpnewt_summary(block: *const u8, n: usize, out: *mut u64, out_n: usize) -> u32;
+        pub fn sumpnewt_remove(
+            block: *const u8,
+            n: usize,
+            a: usize,
+            b: usize,
+            out: *mut u8,
+            out_n: usize,
+        ) -> u32;
+        pub fn sumpnewt_page(
+            block: *const u8,
+            n: usize,
+            a: usize,
+            b: usize,
+            row: *mut f64,
+            row_n: usize,
+        ) -> u32;
+        pub fn sumpnewt_flip_32(
+            block: *const u8,
+            n: usize,
+            a: usize,
+            b: usize,
+            out: *mut u8,
+            out_n: usize,
+        ) -> u32;
+        pub fn sumpnewt_flip_23(
+            block: *const u8,
+            n: usize,
+            u: usize,
+            v: usize,
+            w: usize,
+            out: *mut u8,
+            out_n: usize,
+        ) -> u32;
+    }
+}
+
+// SAFETY, for every call here: a slice is good for its length, and a `&mut` overlaps nothing.
+
+pub fn open(block: &[u8]) -> u32 {
+    unsafe { c::sumpnewt_open(block.as_ptr(), block.len()) }
+}
+
+pub fn seal(fields: &[u8], out: &mut [u8]) -> u32 {
+    unsafe { c::sumpnewt_seal(fields.as_ptr(), fields.len(), out.as_mut_ptr(), out.len()) }
+}
+
+pub fn summary(block: &[u8], out: &mut [u64]) -> u32 {
+    unsafe { c::sumpnewt_summary(block.as_ptr(), block.len(), out.as_mut_ptr(), out.len()) }
+}
+
+pub fn remove(block: &[u8], [a, b]: [usize; 2], out: &mut [u8]) -> u32 {
+    let (bytes, n) = (block.as_ptr(), block.len());
+    unsafe { c::sumpnewt_remove(bytes, n, a, b, out.as_mut_ptr(), out.len()) }
+}
+
+pub fn page(block: &[u8], [a, b]: [usize; 2], row: &mut [f64]) -> u32 {
+    let (bytes, n) = (block.as_ptr(), block.len());
+    unsafe { c::sumpnewt_page(bytes, n, a, b, row.as_mut_ptr(), row.len()) }
+}
+
+pub fn flip_32(block: &[u8], [a, b]: [usize; 2], out: &mut [u8]) -> u32 {
+    let (bytes, n) = (block.as_ptr(), block.len());
+    unsafe { c::sumpnewt_flip_32(bytes, n, a, b, out.as_mut_ptr(), out.len()) }
+}
+
+pub fn flip_23(block: &[u8], [u, v, w]: [usize; 3], out: &mut [u8]) -> u32 {
+    let (bytes, n) = (block.as_ptr(), block.len());
+    unsafe { c::sumpnewt_flip_23(bytes, n, u, v, w, out.as_mut_ptr(), out.len()) }
+}
+
+/// The kernel's outcome of a call; none for a printout, which is the program's.
+pub fn run(call: &Call) -> Option<Outcome> {
+    Some(match call.clone() {
+        Call::Open { block } => Outcome::Answer(open(&block)),
+        Call::Seal { fields, mut out } => Outcome::Bytes(seal(&fields, &mut out), out),
+        Call::Summary { block, mut out } => Outcome::Numbers(summary(&block, &mut out), out),
+        Call::Remove {
+            block,
+            ends,
+            mut out,
+        } => Outcome::Bytes(remove(&block, ends, &mut out), out),
+        Call::Page {
+            block,
+            ends,
+            mut row,
+        } => {
+            let number = page(&block, ends, &mut row);
+            Outcome::Page(number, row.into_iter().map(f64::to_bits).collect())
+        }
+        Call::Flip32 {
+            block,
+            ends,
+            mut out,
+        } => Outcome::Bytes(flip_32(&block, ends, &mut out), out),
+        Call::Flip23 {
+            block,
+            face,
+            mut out,
+        } => Outcome::Bytes(flip_23(&block, face, &mut out), out),
+        Call::Printout { .. } => return None,
+    })
+}

@@ -1,0 +1,186 @@
+//! The kernel, through its archive, against the model: every call, its answer and every element of its output.
+
+#[cfg(not(kernel))]
+#[test]
+fn the_archive_is_there() {
+    panic!("no archive of the kernel: run compare/archive sumpnewt");
+}
+
+#[cfg(kernel)]
+mod common;
+
+#[cfg(kernel)]
+mod held {
+    use super::common::*;
+    use compare::gen::{case, cases, Random};
+    use compare::held::Held;
+    use compare::model::block::with_sums;
+    use compare::model::call::{PAGE_NUMBERS, SUMMARY_NUMBERS};
+    use compare::model::limits::{BLOCK_BYTES, FIELD_BYTES};
+    use compare::model::{open, Call, Outcome};
+
+    /// Generated cases of the gate; `hold` takes any number.
+    const CASES: u64 = 24_000;
+    /// More than a block and its output together.
+    const LENGTHS: usize = 1_100;
+
+    /// Every call on a block with these numbers, each with an output of its own length.
+    fn calls_on(block: &[u8], [u, v, w]: [usize; 3]) -> [Call; 7] {
+        let block = block.to_vec();
+        let out = UNTOUCHED.to_vec();
+        let ends = [u, v];
+        [
+            Call::Open {
+                block: block.clone(),
+            },
+            Call::Seal {
+                fields: block[..block.len().min(FIELD_BYTES)].to_vec(),
+                out: out.clone(),
+            },
+            Call::Summary {
+                block: block.clone(),
+                out: vec![u64::MAX; SUMMARY_NUMBERS],
+            },
+            Call::Remove {
+                block: block.clone(),
+                ends,
+                out: out.clone(),
+            },
+            Call::Page {
+                block: block.clone(),
+                ends,
+                row: vec![-1.5; PAGE_NUMBERS],
+            },
+            Call::Flip32 {
+                block: block.clone(),
+                ends,
+                out: out.clone(),
+            },
+            Call::Flip23 {
+                block,
+                face: [u, v, w],
+                out,
+            },
+        ]
+    }
+
+    /// Every byte of some bytes with every other value.
+    fn changes(bytes: &[u8]) -> impl Iterator<Item = Vec<u8>> + '_ {
+        (0..bytes.len()).flat_map(move |at| {
+            (1..=255).map(move |change| {
+                let mut other = bytes.to_vec();
+                other[at] ^= change;
+                other
+            })
+        })
+    }
+
+    /// Blocks that open, with an edge of theirs.
+    fn open_blocks(count: usize) -> Vec<(Vec<u8>, [usize; 2])> {
+        edges(7, 400)
+            .filter(|(patch, _)| patch.rows.len() < 20)
+            .map(|(patch, ends)| (patch.to_bytes().to_vec(), ends))
+            .take(count)
+            .collect()
+    }
+
+    #[test]
+    fn on_generated_cases() {
+        Held::of(cases(1, CASES).map(|case| case.call)).expect(20_000);
+    }
+
+    #[test]
+    fn on_every_change_of_one_byte() {
+        for (block, [a, b]) in open_blocks(3) {
+            let calls = changes(&block).flat_map(|other| calls_on(&other, [a, b, 2]));
+            Held::of(calls).expect(255 * 512 * 7);
+        }
+    }
+
+    #[test]
+    fn on_every_change_of_one_byte_with_its_sums_made_anew() {
+        let fields = block_a().to_bytes()[..FIELD_BYTES].to_vec();
+        let calls = changes(&fields).flat_map(|other| {
+            let fields: [u8; FIELD_BYTES] = other.try_into().expect("as many bytes");
+            calls_on(&with_sums(&fields), [0, 1, 2])
+        });
+        Held::of(calls).expect(255 * 508 * 7);
+    }
+
+    #[test]
+    fn on_every_length() {
+        let block = block_a().to_bytes();
+        let long: Vec<u8> = block.iter().copied().cycle().take(LENGTHS).collect();
+        let inputs = (0..=LENGTHS).flat_map(|length| calls_on(&long[..length], [0, 1, 2]));
+        Held::of(inputs).expect(7 * LENGTHS as u64);
+        let outputs = (0..=LENGTHS).flat_map(|length| {
+            let mut calls = calls_on(&block, [0, 1, 2]);
+            for call in &mut calls {
+                match call {
+                    Call::Open { .. } => {}
+                    Call::Seal { out, .. }
+                    | Call::Remove { out, .. }
+                    | Call::Flip32 { out, .. }
+                    | Call::Flip23 { out, .. } => *out = long[..length].to_vec(),
+                    Call::Summary { out, .. } => *out = vec![9; length],
+                    Call::Page { row, .. } => *row = vec![9.0; length],
+                    Call::Printout { .. } => unreachable!("not among them"),
+                }
+            }
+            calls
+        });
+        Held::of(outputs).expect(7 * LENGTHS as u64);
+    }
+
+    #[test]
+    fn on_every_number_of_an_edge() {
+        let block = block_a().to_bytes();
+        let numbers = [0, 1, 2, 3, 4, 5, 63, 64, 255, 256, 257, 1 << 32, usize::MAX];
+        let calls = numbers
+            .iter()
+            .flat_map(|a| numbers.iter().map(move |b| (*a, *b)))
+            .flat_map(|(a, b)| calls_on(&block, [a, b, 4]));
+        Held::of(calls).expect(7 * 169);
+    }
+
+    #[test]
+    fn on_random_bytes() {
+        let mut random = Random::of_case(11, 0);
+        let calls = (0..4_000).flat_map(|_| {
+            let mut fields: [u8; FIELD_BYTES] = random.bytes(FIELD_BYTES).try_into().expect("508");
+            let raw = random.bytes(BLOCK_BYTES);
+            // From wholly random to a body whose faults are few.
+            fields[0] = 1;
+            fields[1] %= 66;
+            fields[2] %= 62;
+            fields[3..16].fill(0);
+            let kept = random.below(FIELD_BYTES);
+            let mut sparse = fields;
+            sparse[kept.max(16)..].fill(0);
+            let numbers = [random.below(66), random.below(66), random.below(66)];
+            [
+                raw,
+                with_sums(&fields).to_vec(),
+                with_sums(&sparse).to_vec(),
+            ]
+            .into_iter()
+            .flat_map(move |block| calls_on(&block, numbers))
+        });
+        Held::of(calls).expect(7 * 12_000);
+    }
+
+    /// An output block that the kernel has written opens, also for the model.
+    #[test]
+    fn what_it_writes_opens() {
+        let mut written = 0;
+        for index in 0..4_000 {
+            let call = case(3, index).call;
+            let Some(Outcome::Bytes(0, bytes)) = compare::kernel::run(&call) else {
+                continue;
+            };
+            assert!(open(&bytes).is_ok(), "{call:?}");
+            written += 1;
+        }
+        assert!(written >= 500, "{written}");
+    }
+}
