@@ -76,7 +76,7 @@ int main(void) {
     if (number != SUMPNEWT_DONE) {
         return refused("sumpnewt_summary", number);
     }
-    printf("page row: worst quality %.17g before, %.17g after\n", page[SUMPNEWT_WORST_BEFORE],
+    printf("page row: worst quality %.6f before, %.6f after\n", page[SUMPNEWT_WORST_BEFORE],
            page[SUMPNEWT_WORST_AFTER]);
     return 0;
 }

@@ -1,0 +1,164 @@
+//! What users touch: the samples, the script over the program, the header and the C example.
+
+mod common;
+
+use common::*;
+use compare::gen::cases;
+use compare::model::{printout, remove, Call, PageRow, Patch, Row, Summary};
+use std::ffi::OsStr;
+use std::fs;
+use std::path::{Path, PathBuf};
+use std::process::{Command, Output};
+
+fn house() -> PathBuf {
+    Path::new(env!("CARGO_MANIFEST_DIR")).join("..")
+}
+
+/// A file of this test's own.
+fn scratch(name: &str) -> PathBuf {
+    Path::new(env!("CARGO_TARGET_TMPDIR")).join(name)
+}
+
+#[track_caller]
+fn run(program: impl AsRef<OsStr>, arguments: &[&OsStr]) -> Output {
+    let mut command = Command::new(program);
+    let output = command.current_dir(house()).args(arguments).output();
+    output.expect("it starts")
+}
+
+/// What a command that succeeds prints.
+#[track_caller]
+fn printed(program: impl AsRef<OsStr>, arguments: &[&OsStr]) -> String {
+    let output = run(program, arguments);
+    let said = String::from_utf8_lossy(&output.stderr);
+    assert!(output.status.success() && said.is_empty(), "{said}");
+    String::from_utf8(output.stdout).expect("text")
+}
+
+/// The patch of a readable text, by a second reading of it.
+fn patch_of(text: &str) -> Patch {
+    let mut patch = patch(&[], &[], 0);
+    for line in text.lines() {
+        let line = line.split('#').next().expect("a part before any comment");
+        let mut words = line.split_whitespace();
+        let word = words.next();
+        let numbers: Vec<u8> = words.map(|word| word.parse().expect("a byte")).collect();
+        match (word, numbers.as_slice()) {
+            (None, _) => {}
+            (Some("point"), [x, y, z]) => patch.points.push([*x, *y, *z]),
+            (Some("row"), [p, q, r, s, region]) => patch.rows.push(Row {
+                numbers: [*p, *q, *r, *s],
+                region: *region,
+            }),
+            _ => panic!("{line}"),
+        }
+    }
+    patch
+}
+
+fn samples() -> Vec<PathBuf> {
+    let files = fs::read_dir(house().join("samples")).expect("samples/");
+    let paths = files.map(|file| file.expect("an entry").path());
+    let texts: Vec<PathBuf> = paths
+        .filter(|path| path.extension() == Some(OsStr::new("txt")))
+        .collect();
+    assert!(texts.len() >= 3);
+    texts
+}
+
+#[test]
+fn a_sample_is_its_text() {
+    for text in samples() {
+        let patch = patch_of(&fs::read_to_string(&text).expect("text"));
+        let block = fs::read(text.with_extension("patch")).expect("its block");
+        assert_eq!(block, patch.to_bytes(), "{}", text.display());
+        let copy = scratch(text.file_name().and_then(OsStr::to_str).expect("a name"));
+        fs::copy(&text, &copy).expect("a copy");
+        printed("samples/make", &[copy.as_os_str()]);
+        assert_eq!(fs::read(copy.with_extension("patch")).expect("made"), block);
+    }
+}
+
+#[test]
+fn a_text_that_is_wrong_is_told_in_one_line() {
+    for wrong in ["point 1 2", "row 1 2 3 4", "edge 1 2", "point 1 2 256"] {
+        let text = scratch("wrong.txt");
+        fs::write(&text, wrong).expect("written");
+        let output = run("samples/make", &[text.as_os_str()]);
+        assert!(!output.status.success());
+        assert_eq!(String::from_utf8_lossy(&output.stderr).lines().count(), 1);
+    }
+}
+
+#[test]
+fn the_script_prints_the_models_printout() {
+    let removals = cases(5, 600).filter_map(|case| match case.call {
+        Call::Printout { input } => Some(input),
+        _ => None,
+    });
+    let file = scratch("block.patch");
+    for input in removals.take(60) {
+        let Some((block, [a, b])) = input.split_last_chunk::<2>() else {
+            continue;
+        };
+        fs::write(&file, block).expect("written");
+        let ends = [a.to_string(), b.to_string()];
+        let arguments = [file.as_os_str(), OsStr::new(&ends[0]), OsStr::new(&ends[1])];
+        assert_eq!(printed("./sumpnewt", &arguments), printout(&input));
+    }
+}
+
+#[test]
+fn the_script_tells_what_is_wrong_in_one_line() {
+    let sample = "samples/block_a.patch";
+    let wrong: [&[&str]; 6] = [
+        &[],
+        &[sample, "0"],
+        &["samples/no_such.patch", "0", "1"],
+        &[sample, "0", "256"],
+        &[sample, "-1", "1"],
+        &[sample, "", "1"],
+    ];
+    for words in wrong {
+        let words: Vec<&OsStr> = words.iter().map(OsStr::new).collect();
+        let output = run("./sumpnewt", &words);
+        assert!(!output.status.success() && output.stdout.is_empty());
+        assert_eq!(String::from_utf8_lossy(&output.stderr).lines().count(), 1);
+    }
+}
+
+/// What the C example prints of block A.
+fn expected_of_the_example() -> String {
+    let line = |name: &str, patch: &Patch| {
+        let summary = Summary::of(patch);
+        let (upright, flat, inverted) = (summary.upright, summary.flat, summary.inverted);
+        let (worst, octave) = (summary.worst.unwrap(), summary.octave.unwrap());
+        format!("{name}: {upright} upright, {flat} flat, {inverted} inverted, worst score {worst}, octave {octave}\n")
+    };
+    let mut out = UNTOUCHED;
+    let removal = remove(&block_a().to_bytes(), 0, 1, &mut out).expect("done");
+    let PageRow { before, after } = removal.page;
+    let page = format!("page row: worst quality {before:.6} before, {after:.6} after\n");
+    line("before", &block_a()) + &line("after", &block_a_after()) + &page
+}
+
+#[cfg(kernel)]
+#[test]
+fn the_c_example_builds_without_a_warning_and_prints_what_the_model_says() {
+    let program = scratch("remove_edge_c");
+    let archive = house().join("target/native/libsumpnewt.a");
+    let strict = ["-std=c99", "-pedantic", "-Wall", "-Wextra", "-Werror"].map(OsStr::new);
+    let parts = ["-Iinclude", "examples/c/remove_edge.c"].map(OsStr::new);
+    let rest = [archive.as_os_str(), OsStr::new("-o"), program.as_os_str()];
+    printed("cc", &[&strict[..], &parts[..], &rest[..]].concat());
+    assert_eq!(printed(&program, &[]), expected_of_the_example());
+}
+
+#[test]
+fn the_header_is_c_and_c_plus_plus() {
+    let strict = ["-Wall", "-Wextra", "-Werror", "-pedantic", "-fsyntax-only"].map(OsStr::new);
+    for language in ["c", "c++"] {
+        let rest = ["-x", language, "include/sumpnewt.h"].map(OsStr::new);
+        printed("cc", &[&strict[..], &rest[..]].concat());
+    }
+}
