@@ -45,6 +45,10 @@ numbers row = row .p ∷ row .q ∷ row .r ∷ row .s ∷ []
 abbrev pub holds : Row → ℕ → Bool
 holds row n = has (numbers row) n
 
+-- the row holds both ends of an edge
+abbrev pub holdsEdge : ℕ → ℕ → Row → Bool
+holdsEdge a b row = holds row a && holds row b
+
 -- A directed face.
 abbrev pub Face : Type 0
 Face = ℕ × ℕ × ℕ

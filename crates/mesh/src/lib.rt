@@ -6,7 +6,7 @@ ghost use Prim.Native.Nat.{_+_, _*_, _<_, _≤_, min};
 ghost use lib.Dec.{ltb};
 ghost use lib.ListN.{length, take, drop};
 ghost use Rattle.lists.specs.Lists.{every, any, has, different};
-ghost use Rattle.mesh.specs.Mesh.{rowSize, rowIn, rowsIn, numbers, uses, numbersFit, facesApart, keepsMeshRule};
+ghost use Rattle.mesh.specs.Mesh.{rowSize, rowIn, rowsIn, numbers, holds, holdsEdge, uses, numbersFit, facesApart, keepsMeshRule};
 ghost use Rattle.mesh.specs.Keys.{mostRows, rowFaces, mostKeys, threeAsOne, faceKey, rowKeys, tableKeys, oneOf};
 
 // The bytes of a row, its faces, and the faces of the longest table: 60 rows of a block and one more while it is changed.
@@ -38,6 +38,32 @@ pub fn row_in(table: &[u8], i: usize) -> Row
         s: table[at + 3],
         region: table[at + 4],
     }
+}
+
+// The row holds point n.
+pub fn row_holds(row: Row, n: u8) -> bool
+    ensures { λ r. ⌜ r ≡ holds row n ⌝ }
+{
+    if n == row.p {
+        return true;
+    }
+    if n == row.q {
+        return true;
+    }
+    if n == row.r {
+        return true;
+    }
+    n == row.s
+}
+
+// The row holds both ends of an edge.
+pub fn holds_edge(row: Row, a: u8, b: u8) -> bool
+    ensures { λ r. ⌜ r ≡ holdsEdge a b row ⌝ }
+{
+    if row_holds(row, a) {
+        return row_holds(row, b);
+    }
+    false
 }
 
 // ---- proper numbers

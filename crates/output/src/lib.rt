@@ -3,7 +3,7 @@ ghost use mathlib.Core.Path.{_≡_};
 ghost use mathlib.Core.List.{_++_, flatMap};
 ghost use Prim.Native.Nat.{_+_, _*_, _≤_};
 ghost use lib.ListN.{length, drop};
-ghost use Rattle.mesh.specs.Mesh.{rowSize, rowBytes, rowsIn, holds};
+ghost use Rattle.mesh.specs.Mesh.{rowSize, rowBytes, rowsIn};
 ghost use Rattle.block.specs.Layout.{fieldsOf, bytesOf};
 ghost use Rattle.output.specs.Output.{stays, staying, pasted, patchWith, Ready};
 use block::BODY_BYTES;
@@ -26,33 +26,17 @@ pub fn put_row(rows: &mut [u8], i: usize, row: Row)
     rows[at + 4] = row.region;
 }
 
-// The row holds point n.
-fn row_holds(row: Row, n: u8) -> bool
-    ensures { λ r. ⌜ r ≡ holds row n ⌝ }
-{
-    if n == row.p {
-        return true;
-    }
-    if n == row.q {
-        return true;
-    }
-    if n == row.r {
-        return true;
-    }
-    n == row.s
-}
-
 // The row does not hold all three numbers; an edge is given with its second end twice.
 fn row_stays(row: Row, x: u8, y: u8, z: u8) -> bool
     ensures { λ r. ⌜ r ≡ stays x y z row ⌝ }
 {
-    if !row_holds(row, x) {
+    if !mesh::row_holds(row, x) {
         return true;
     }
-    if !row_holds(row, y) {
+    if !mesh::row_holds(row, y) {
         return true;
     }
-    !row_holds(row, z)
+    !mesh::row_holds(row, z)
 }
 
 // The rows that stay, in order, are written to the front of the scratch table; their number is returned.

@@ -11,7 +11,8 @@ use Rattle.block.specs.Answers.{Tests, firstRefusal}
 use Rattle.block.proofs.Refusals.{goes-on, refuses}
 use Rattle.block.proofs.Right.{right-block}
 use Rattle.block.proofs.Written.{rows-counted}
-use Rattle.ring.specs.Ring.{Site, siteOf, m, minRing, holdsEdge, lengthWrong}
+use Rattle.mesh.specs.Mesh.{holdsEdge}
+use Rattle.ring.specs.Ring.{Site, siteOf, m, minRing, lengthWrong}
 use Rattle.pieces.specs.Triangulation.{newRows, tableAfter, rowsAfter}
 use Rattle.pieces.specs.Admissible.{admissible}
 use Rattle.pieces.specs.Best.{chosen}

@@ -13,13 +13,13 @@ use Rattle.lists.specs.Lists.{every, any, those}
 use Rattle.lists.proofs.Lists.{any-i, every-i, those-e}
 use Rattle.lists.proofs.Counts.{count-append, count-split}
 use Rattle.mesh.specs.declared.Row.{Row}
-use Rattle.mesh.specs.Mesh.{keepsMeshRule}
+use Rattle.mesh.specs.Mesh.{keepsMeshRule, holdsEdge}
 use Rattle.mesh.specs.Tetrahedra.{rearranged, SameTetrahedra}
 use Rattle.mesh.proofs.Alike.{same-keeps, same-cons, same-append, same-swap}
 use Rattle.mesh.proofs.Evenly.{even-region}
 use Rattle.block.specs.Layout.{Patch, blockBytes, fieldsOf}
 use Rattle.block.specs.Answers.{firstRefusal}
-use Rattle.ring.specs.Ring.{Site, siteOf, m, holdsEdge}
+use Rattle.ring.specs.Ring.{Site, siteOf, m}
 use Rattle.ring.proofs.Rounding.{smallest-le}
 use Rattle.pieces.specs.Triangulation.{side, cut, span, regionOf, tableAfter}
 use Rattle.pieces.specs.Admissible.{admissible}

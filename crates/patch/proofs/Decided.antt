@@ -14,7 +14,7 @@ use Rattle.lists.proofs.Lists.{those-split}
 use Rattle.measure.specs.declared.Quality.{Quality}
 use Rattle.measure.specs.Measure.{pointsIn, sameZ, worse, worst, asGood, zeroQuality}
 use Rattle.measure.proofs.Points.{points-length}
-use Rattle.mesh.specs.Mesh.{rowsIn, holds, numbersFit, rowQuality, totalD}
+use Rattle.mesh.specs.Mesh.{rowsIn, holdsEdge, numbersFit, rowQuality, totalD}
 use Rattle.mesh.proofs.Rule.{keeps-fits}
 use Rattle.mesh.proofs.Tables.{rows-length}
 use Rattle.block.specs.declared.Answer.the-variants.{Done, Refused}
@@ -23,7 +23,7 @@ use Rattle.block.specs.Answers.{firstRefusal, coordinateOver}
 use Rattle.block.proofs.Refusals.{passed, goes-on, refuses}
 use Rattle.tally.specs.Measured.{Measured, patchIn}
 use Rattle.ring.specs.declared.Ring.{Ring}
-use Rattle.ring.specs.Ring.{Site, siteOf, m, holdsEdge}
+use Rattle.ring.specs.Ring.{Site, siteOf, m}
 use Rattle.pieces.specs.declared.Best.the-variants.{Mark, Worst}
 use Rattle.pieces.specs.Triangulation.{tableAfter, rowsAfter}
 use Rattle.pieces.specs.Best.{bestWorst, chosen, sameBest}
@@ -146,7 +146,7 @@ module _ (coordinates : List ℕ) (count : ℕ) (table : List ℕ) (n a b : ℕ)
 
         -- the worst of the rows that hold both ends
         abbrev round : Quality
-        round = Option·getD (worst (map (rowQuality (pointsIn coordinates count)) (those (λ row. holds row a && holds row b) (rowsIn table n)))) zeroQuality
+        round = Option·getD (worst (map (rowQuality (pointsIn coordinates count)) (those (holdsEdge a b) (rowsIn table n)))) zeroQuality
 
         round-now : round ≡ worstNow its
         unfolding worstNow siteOf

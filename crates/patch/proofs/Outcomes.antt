@@ -13,7 +13,7 @@ use Rattle.measure.specs.declared.PageRow.{PageRow}
 use Rattle.measure.specs.declared.Quality.{Quality}
 use Rattle.measure.specs.Page.{shown, pageRow}
 use Rattle.mesh.specs.declared.Row.{Row}
-use Rattle.mesh.specs.Mesh.{rowsIn}
+use Rattle.mesh.specs.Mesh.{rowsIn, holdsEdge}
 use Rattle.block.specs.declared.Answer.the-variants as Answer
 use Rattle.block.specs.Layout.{blockBytes, maxRows, pointCount, rowCount, coordinatesOf, tableOf, fieldsOf, bytesOf}
 use Rattle.block.specs.Answers.{openAnswer, answerOf}
@@ -23,7 +23,7 @@ use Rattle.tally.specs.Measured.{patchIn}
 use Rattle.tally.specs.Summing.{worstOfPatch}
 use Rattle.ring.specs.declared.Ring.{Ring}
 use Rattle.ring.specs.declared.Found.{Found}
-use Rattle.ring.specs.Ring.{Site, siteOf, m, minRing, maxRing, holdsEdge, lengthWrong, ringWith}
+use Rattle.ring.specs.Ring.{Site, siteOf, m, minRing, maxRing, lengthWrong, ringWith}
 use Rattle.pieces.specs.Triangulation.{tableAfter, rowsAfter}
 use Rattle.pieces.specs.Best.{chosen}
 use Rattle.pieces.specs.declared.Best.the-variants.{Mark, Worst}

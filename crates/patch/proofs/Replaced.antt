@@ -9,11 +9,11 @@ use lib.ListN.{length, getD, drop, replicate, length-append, drop-of-length-le}
 use lib.Seq.{drop-cons}
 use Rattle.lists.specs.Lists.{those}
 use Rattle.mesh.specs.declared.Row.{Row}
-use Rattle.mesh.specs.Mesh.{rowSize, rowIn, rowsIn, rowBytes, noRow}
+use Rattle.mesh.specs.Mesh.{rowSize, rowIn, rowsIn, rowBytes, noRow, holdsEdge}
 use Rattle.mesh.proofs.Tables.{rows-length, rows-at}
 use Rattle.block.specs.Layout.{maxRows}
 use Rattle.ring.specs.declared.Ring.{Ring}
-use Rattle.ring.specs.Ring.{Site, siteOf, m, maxRing, holdsEdge}
+use Rattle.ring.specs.Ring.{Site, siteOf, m, maxRing}
 use Rattle.pieces.specs.declared.Best.{Best}
 use Rattle.pieces.specs.declared.Pieces.{Pieces}
 use Rattle.pieces.specs.Triangulation.{newRows, tableAfter, rowsAfter, regionOf}

@@ -15,14 +15,14 @@ use Rattle.measure.specs.Measure.{worse, worst}
 use Rattle.measure.proofs.Order.{Fraction, _⊑_, at-most-trans, Worst, worst-is}
 use Rattle.measure.specs.declared.Point.{Point}
 use Rattle.mesh.specs.declared.Row.{Row}
-use Rattle.mesh.specs.Mesh.{numbers, rowQuality}
+use Rattle.mesh.specs.Mesh.{numbers, rowQuality, holdsEdge}
 use Rattle.mesh.specs.Tetrahedra.{rearranged, SameTetrahedra}
 use Rattle.mesh.proofs.Evenly.{even-holds}
 use Rattle.mesh.proofs.Measured.{even-quality}
 use Rattle.block.specs.Layout.{fieldsOf}
 use Rattle.block.specs.Answers.{Tests, firstRefusal, notBlock}
 use Rattle.block.proofs.Refusals.{passed, refuses}
-use Rattle.ring.specs.Ring.{Site, siteOf, m, minRing, maxRing, holdsEdge, numbersWrong, lengthWrong, edgeTests}
+use Rattle.ring.specs.Ring.{Site, siteOf, m, minRing, maxRing, numbersWrong, lengthWrong, edgeTests}
 use Rattle.ring.proofs.Order as Order
 use Rattle.ring.proofs.Order.{row-across, same-tests}
 use Rattle.ring.specs.Found.{ringTests}

@@ -9,11 +9,11 @@ use Rattle.lists.proofs.Lists.{those-split}
 use Rattle.measure.specs.declared.Quality.{Quality}
 use Rattle.measure.specs.Measure.{worst, zeroQuality}
 use Rattle.mesh.specs.declared.Row.{Row}
-use Rattle.mesh.specs.Mesh.{rowQuality}
+use Rattle.mesh.specs.Mesh.{rowQuality, holdsEdge}
 use Rattle.lists.proofs.Places.{getD-inside}
 use Rattle.block.specs.Layout.{fieldsOf}
 use Rattle.block.specs.Answers.{openAnswer}
-use Rattle.ring.specs.Ring.{Site, siteOf, holdsEdge}
+use Rattle.ring.specs.Ring.{Site, siteOf}
 use Rattle.pieces.specs.Triangulation.{regionOf, tableAfter}
 use Rattle.pieces.specs.Best.{chosen}
 use Rattle.pieces.proofs.Rings.{after-length}

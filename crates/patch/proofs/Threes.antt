@@ -15,12 +15,12 @@ use Rattle.lists.proofs.Numbers.{has-i}
 use Rattle.lists.proofs.Places.{in-cases}
 use Rattle.measure.specs.declared.Point.{Point}
 use Rattle.mesh.specs.declared.Row.{Row}
-use Rattle.mesh.specs.Mesh.{numbersFit, keepsMeshRule, Proper}
+use Rattle.mesh.specs.Mesh.{numbersFit, keepsMeshRule, Proper, holdsEdge}
 use Rattle.mesh.proofs.Places.{even-refl}
 use Rattle.mesh.proofs.Rule.{fit-proper, keeps-fits}
 use Rattle.block.specs.Layout.{Patch}
 use Rattle.block.specs.Answers.{firstRefusal}
-use Rattle.ring.specs.Ring.{Link, holdsEdge, link, next, closes, starts, ringOf, Site, siteOf, numbersWrong, linkOpen, manyCircles, edgeTests}
+use Rattle.ring.specs.Ring.{Link, link, next, closes, starts, ringOf, Site, siteOf, numbersWrong, linkOpen, manyCircles, edgeTests}
 use Rattle.ring.proofs.Linking.{link-is}
 use Rattle.ring.proofs.Walking.{Walks, last, more, next-is, walks-walk}
 use Rattle.ring.proofs.Closing.{closes-i}

@@ -11,12 +11,12 @@ use Rattle.lists.specs.Lists.{any, has, those}
 use Rattle.measure.specs.Measure.{worse}
 use Rattle.measure.specs.Page.{shown, pageRow}
 use Rattle.mesh.specs.declared.Row.{Row}
-use Rattle.mesh.specs.Mesh.{MeshRule, numbers, rowQuality, totalD}
+use Rattle.mesh.specs.Mesh.{MeshRule, numbers, rowQuality, totalD, holdsEdge}
 use Rattle.mesh.specs.Tetrahedra.{SameTetrahedra}
 use Rattle.block.specs.Layout.{Patch, blockBytes, maxRows, fieldsOf, bytesOf}
 use Rattle.block.specs.Within.{Kept}
 use Rattle.block.specs.Answers.{openAnswer, openGives, numberOf, sealAnswer, sealBytes}
-use Rattle.ring.specs.Ring.{Site, siteOf, m, minRing, maxRing, holdsEdge, ringWith}
+use Rattle.ring.specs.Ring.{Site, siteOf, m, minRing, maxRing, ringWith}
 use Rattle.pieces.specs.Triangulation.{Tri, span, newRows, rowsAfter, tableAfter}
 use Rattle.pieces.specs.Admissible.{admissible}
 use Rattle.pieces.specs.Best.{worstOfWay, chosen}

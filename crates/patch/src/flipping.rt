@@ -68,13 +68,13 @@ fn least(x: u8, y: u8, z: u8) -> u8
 fn holds_face(row: Row, x: u8, y: u8, z: u8) -> bool
     ensures { λ r. ⌜ r ≡ holdsFace (x ∷ y ∷ z ∷ []) row ⌝ }
 {
-    if !ring::row_holds(row, x) {
+    if !mesh::row_holds(row, x) {
         return false;
     }
-    if !ring::row_holds(row, y) {
+    if !mesh::row_holds(row, y) {
         return false;
     }
-    ring::row_holds(row, z)
+    mesh::row_holds(row, z)
 }
 
 // The face has not the number n.

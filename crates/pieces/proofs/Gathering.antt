@@ -16,12 +16,11 @@ use Rattle.lists.proofs.Lists.{any-i, any-e, those-e, those-i, those-append, an
 use Rattle.lists.proofs.Numbers.{has-i, has-e}
 use Rattle.lists.proofs.Images.{flatMap-i, flatMap-e, flatMap-append}
 use Rattle.mesh.specs.declared.Row.{Row}
-use Rattle.mesh.specs.Mesh.{rowIn, rowsIn, Face, faces, uses, usesEitherWay, reversed}
+use Rattle.mesh.specs.Mesh.{rowIn, rowsIn, Face, faces, uses, usesEitherWay, reversed, holdsEdge}
 use Rattle.mesh.specs.Keys.{faceKey}
 use Rattle.mesh.proofs.Faces.{Turned, as-is, once, twice, same-turned, turned-same, uses-e, uses-i}
 use Rattle.mesh.proofs.Keys.{Small, key-same, same-key, faces-small}
 use Rattle.mesh.proofs.Tables.{Bytes, rows-more}
-use Rattle.ring.specs.Ring.{holdsEdge}
 use Rattle.pieces.specs.Gathered.{marked, keyed, keptOf, keptKeys, usedBy}
 
 -- gathering goes by parts

@@ -13,8 +13,8 @@ use Rattle.measure.specs.declared.Point.{Point}
 use Rattle.measure.specs.Measure.{worse}
 use Rattle.measure.proofs.Order.{Fraction, Fractions, worst-is}
 use Rattle.mesh.specs.declared.Row.{Row}
-use Rattle.mesh.specs.Mesh.{rowQuality}
-use Rattle.ring.specs.Ring.{Site, m, holdsEdge}
+use Rattle.mesh.specs.Mesh.{rowQuality, holdsEdge}
+use Rattle.ring.specs.Ring.{Site, m}
 use Rattle.ring.specs.Sound.{SoundRing}
 use Rattle.pieces.specs.Triangulation.{Tri, side, cut, span, ways, newRows, tableAfter, rowsAfter}
 use Rattle.pieces.specs.Admissible.{admissible, pieceAdmissible}

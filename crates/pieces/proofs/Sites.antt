@@ -14,11 +14,11 @@ use Rattle.lists.proofs.Tests.{is-yes, and-i}
 use Rattle.lists.proofs.Lists.{those-e}
 use Rattle.measure.specs.Measure.{pointIn, pointsIn}
 use Rattle.measure.proofs.Points.{points-at}
-use Rattle.mesh.specs.Mesh.{rowsIn, place, noPoint, usesEitherWay}
+use Rattle.mesh.specs.Mesh.{rowsIn, place, noPoint, usesEitherWay, holdsEdge}
 use Rattle.mesh.proofs.Keys.{Small}
 use Rattle.mesh.proofs.Tables.{rows-bytes}
 use Rattle.ring.specs.declared.Ring.{Ring}
-use Rattle.ring.specs.Ring.{Site, siteOf, holdsEdge, m, maxRing, ringWith}
+use Rattle.ring.specs.Ring.{Site, siteOf, m, maxRing, ringWith}
 use Rattle.pieces.specs.declared.Filling.{Filling}
 use Rattle.pieces.specs.declared.Pieces.{Pieces}
 use Rattle.pieces.specs.declared.Rim.{Rim}

@@ -12,10 +12,10 @@ use Rattle.lists.proofs.Tests.{and-i}
 use Rattle.lists.proofs.Lists.{every-append, those-e, every-those}
 use Rattle.lists.proofs.Counts.{count-split, count-member}
 use Rattle.mesh.specs.declared.Row.{Row}
-use Rattle.mesh.specs.Mesh.{Face, uses, numbersFit}
+use Rattle.mesh.specs.Mesh.{Face, uses, numbersFit, holdsEdge}
 use Rattle.mesh.proofs.Counted.{hits}
 use Rattle.mesh.proofs.Rule.{keeps-fits, keeps-hits, proper-fits}
-use Rattle.ring.specs.Ring.{Site, Link, holdsEdge, link, m}
+use Rattle.ring.specs.Ring.{Site, Link, link, m}
 use Rattle.ring.specs.Sound.{SoundChain, SoundRing}
 use Rattle.ring.proofs.Linking.{link-outer-a, link-outer-b, links-fit}
 use Rattle.pieces.specs.Triangulation.{Tri, side, cut, v, newRows}

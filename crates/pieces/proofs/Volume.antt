@@ -18,11 +18,11 @@ use Rattle.lists.proofs.Places.{in-cases}
 use Rattle.measure.specs.Measure.{D}
 use Rattle.measure.proofs.Identities.{D-kept, D-exchanged, pqsr}
 use Rattle.mesh.specs.declared.Row.{Row}
-use Rattle.mesh.specs.Mesh.{holds, place, rowD, totalD}
+use Rattle.mesh.specs.Mesh.{holds, holdsEdge, place, rowD, totalD}
 use Rattle.mesh.specs.Tetrahedra.{arrangedFrom}
 use Rattle.mesh.proofs.Places.{arranged-from}
 use Rattle.mesh.proofs.Measured.{even-D, total-split}
-use Rattle.ring.specs.Ring.{Site, Link, holdsEdge, link, m}
+use Rattle.ring.specs.Ring.{Site, Link, link, m}
 use Rattle.ring.specs.Sound.{SoundRing}
 use Rattle.pieces.specs.Triangulation.{Tri, side, cut, span, v, newRows, tableAfter}
 use Rattle.pieces.proofs.Ways.{span-over}

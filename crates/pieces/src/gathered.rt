@@ -76,7 +76,7 @@ fn add_row(
     ensures { λ r. ⌜ (length (now (keys .exit)) ≡ mostKeys) × (r ≤ n + rowFaces)
         × (take r (now (keys .exit)) ≡ take n (now (keys .entry)) ++ keptKeys (now (marks .entry)) (keptOf a b (row ∷ []))) ⌝ }
 {
-    if ring::holds_edge(row, a, b) {
+    if mesh::holds_edge(row, a, b) {
         return n;
     }
     let one = add_face(keys, n, marks, row.q, row.r, row.s);

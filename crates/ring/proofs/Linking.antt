@@ -15,14 +15,14 @@ use Rattle.lists.proofs.Places.{at-in}
 use Rattle.lists.proofs.Counts.{ind-yes, count-member}
 use Rattle.lists.proofs.Options.{pair-is}
 use Rattle.mesh.specs.declared.Row.{Row}
-use Rattle.mesh.specs.Mesh.{Face, numbers, holds, uses, numbersFit, keepsMeshRule, Proper, noRow}
+use Rattle.mesh.specs.Mesh.{Face, numbers, holds, holdsEdge, uses, numbersFit, keepsMeshRule, Proper, noRow}
 use Rattle.mesh.specs.Tetrahedra.{evenly, rearranged, arrangedFrom}
 use Rattle.mesh.proofs.Faces.{as-is, once, twice, stay, FaceOf, no-p, no-q, no-r, no-s, same-faces, uses-face, face-uses}
 use Rattle.mesh.proofs.Counted.{hits, hits-cons}
 use Rattle.mesh.proofs.Rule.{fit-proper, keeps-fits, keeps-hits}
 use Rattle.mesh.proofs.Evenly.{spin, even-i, even-uses, holds-cases, even-holds, even-proper}
 use Rattle.mesh.proofs.Places.{even-trans, even-sym, arranged-from}
-use Rattle.ring.specs.Ring.{Link, holdsEdge, link, starts}
+use Rattle.ring.specs.Ring.{Link, link, starts}
 use Rattle.ring.specs.Found.{linksOf, ends, following}
 
 -- The two points of a link round a, b, and the ends: below the count, the points different from each other, from a and from b.

@@ -15,14 +15,14 @@ use Rattle.lists.proofs.Lists.{every-at, every-i, any-e, those-e, those-i}
 use Rattle.lists.proofs.Counts.{count-member, some-counted}
 use Rattle.lists.proofs.Numbers.{no-more}
 use Rattle.mesh.specs.declared.Row.{Row}
-use Rattle.mesh.specs.Mesh.{holds, numbersFit, keepsMeshRule}
+use Rattle.mesh.specs.Mesh.{holds, holdsEdge, numbersFit, keepsMeshRule}
 use Rattle.mesh.specs.Tetrahedra.{rearranged, SameTetrahedra}
 use Rattle.mesh.proofs.Rule.{fit-proper, keeps-fits}
 use Rattle.mesh.proofs.Evenly.{even-holds}
 use Rattle.mesh.proofs.Places.{even-refl}
 use Rattle.mesh.proofs.Alike.{same-keeps}
 use Rattle.block.specs.Layout.{Patch}
-use Rattle.ring.specs.Ring.{Link, holdsEdge, link, next, walk, circle, closes}
+use Rattle.ring.specs.Ring.{Link, link, next, walk, circle, closes}
 use Rattle.ring.specs.Ring.{starts, smallest, ringOf, siteOf, numbersWrong, linkOpen, manyCircles}
 use Rattle.ring.specs.Found.{linksOf, ringTests, foundOf}
 use Rattle.ring.proofs.Linking.{starts-different, link-even}

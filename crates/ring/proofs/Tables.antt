@@ -8,10 +8,10 @@ use lib.Dec.{T}
 use Rattle.lists.specs.Lists.{those}
 use Rattle.lists.proofs.Lists.{every-at, those-yes, those-no}
 use Rattle.mesh.specs.declared.Row.{Row}
-use Rattle.mesh.specs.Mesh.{rowIn, rowsIn, numbersFit, keepsMeshRule}
+use Rattle.mesh.specs.Mesh.{rowIn, rowsIn, numbersFit, keepsMeshRule, holdsEdge}
 use Rattle.mesh.proofs.Tables.{rows-more, row-among}
 use Rattle.mesh.proofs.Rule.{keeps-fits}
-use Rattle.ring.specs.Ring.{Link, holdsEdge, link}
+use Rattle.ring.specs.Ring.{Link, link}
 use Rattle.ring.specs.Found.{linksOf}
 
 -- a row of a table that keeps the mesh rule

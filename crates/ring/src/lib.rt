@@ -5,9 +5,9 @@ ghost use Prim.Native.Nat.{ℕ, _+_, _*_, _<_, _≤_};
 ghost use lib.Dec.{T};
 ghost use lib.ListN.{length, take};
 ghost use Rattle.lists.specs.Lists.{every, has};
-ghost use Rattle.mesh.specs.Mesh.{rowSize, rowsIn, holds, numbersFit, keepsMeshRule};
+ghost use Rattle.mesh.specs.Mesh.{rowSize, rowsIn, numbersFit, keepsMeshRule, holdsEdge};
 ghost use Rattle.block.specs.Layout.{maxRows};
-ghost use Rattle.ring.specs.Ring.{holdsEdge, link, circle, starts, smallest, maxRing, ringWith};
+ghost use Rattle.ring.specs.Ring.{link, circle, starts, smallest, maxRing, ringWith};
 ghost use Rattle.ring.specs.Found.{refusedWith, foundOf, edgeIn, linksOf, ends, following, linksIn, walked, LinkedRow, Table};
 use block::Answer;
 use mesh::Row;
@@ -50,32 +50,6 @@ struct Circle {
 }
 
 // ---- the links
-
-// The row holds point n.
-pub fn row_holds(row: Row, n: u8) -> bool
-    ensures { λ r. ⌜ r ≡ holds row n ⌝ }
-{
-    if n == row.p {
-        return true;
-    }
-    if n == row.q {
-        return true;
-    }
-    if n == row.r {
-        return true;
-    }
-    n == row.s
-}
-
-// The row holds both ends.
-pub fn holds_edge(row: Row, a: u8, b: u8) -> bool
-    ensures { λ r. ⌜ r ≡ holdsEdge a b row ⌝ }
-{
-    if row_holds(row, a) {
-        return row_holds(row, b);
-    }
-    false
-}
 
 // What follows b in the face x, y, z, turned round to begin with b.
 fn after(x: u8, y: u8, z: u8, b: u8) -> Link
@@ -132,7 +106,7 @@ fn gather(table: &[u8], n: usize, a: u8, b: u8) -> Links
     };
     for i in 0..n {
         let row = mesh::row_in(table, i);
-        if holds_edge(row, a, b) {
+        if mesh::holds_edge(row, a, b) {
             links = added(links, link_of(row, a, b));
         }
     }
