@@ -10,7 +10,7 @@ use crate::Point;
 use crate::Quality;
 
 // A point is x, y, z.
-const POINT_SIZE: usize = 3;
+pub const POINT_SIZE: usize = 3;
 
 // The 432 of 432·D²/S³.
 const QUALITY_FACTOR: u64 = 432;

@@ -10,7 +10,7 @@ ghost use Rattle.mesh.specs.Mesh.{rowSize, rowIn, rowsIn, numbers, holds
 ghost use Rattle.mesh.specs.Keys.{mostRows, rowFaces, mostKeys, threeAsOne, faceKey, rowKeys, tableKeys, oneOf};
 
 // The bytes of a row, its faces, and the faces of the longest table: 60 rows of a block and one more while it is changed.
-const ROW_SIZE: usize = 5;
+pub const ROW_SIZE: usize = 5;
 
 const ROW_FACES: usize = 4;
 

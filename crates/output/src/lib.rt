@@ -7,8 +7,8 @@ ghost use Rattle.mesh.specs.Mesh.{rowSize, rowBytes, rowsIn};
 ghost use Rattle.block.specs.Layout.{fieldsOf, bytesOf};
 ghost use Rattle.output.specs.Output.{stays, staying, pasted, patchWith, Ready};
 use block::BODY_BYTES;
-use block::ROW_SIZE;
 use block::ROWS_AT;
+use mesh::ROW_SIZE;
 use mesh::Row;
 
 // ---- rows in a scratch table

@@ -10,13 +10,12 @@ ghost use Rattle.pieces.specs.Best.{cellAt, chosenOf};
 ghost use Rattle.pieces.specs.Filling.{cells};
 ghost use Rattle.pieces.specs.Expanding.{Between, Follows, rowsOver, withRows};
 use crate::Bipyramid;
+use crate::CELLS;
 use crate::Rim;
 use crate::candidates::cell_at;
 use crate::candidates::two_over;
+use mesh::ROW_SIZE;
 use mesh::Row;
-
-// A row is five bytes.
-const ROW_SIZE: usize = 5;
 
 // Row i of a table is written; every other byte stays.
 pub fn write_row(table: &mut [u8], i: usize, row: Row)
@@ -55,7 +54,7 @@ fn write_two(table: &mut [u8], at: usize, rows: Bipyramid, region: u8)
 }
 
 // The apex kept for piece (i,j), or 0 for the mark.
-fn apex_at(apexes: &[u8; 100], i: usize, j: usize) -> usize
+fn apex_at(apexes: &[u8; CELLS], i: usize, j: usize) -> usize
     requires { ⌜ (length (now apexes) ≡ cells) × Between (now apexes) i j × (1 ≤ i) × (i + 2 ≤ j) × (j ≤ maxRing) ⌝ }
     ensures { λ r. ⌜ (r ≡ getD (now (apexes .entry)) (cellAt i j) 0) × (r < j) × ((r ≡ 0 → ⊥) → i < r) ⌝ }
 {
@@ -67,7 +66,7 @@ fn apex_at(apexes: &[u8; 100], i: usize, j: usize) -> usize
 pub fn expand(
     table: &mut [u8],
     at: usize,
-    apexes: &[u8; 100],
+    apexes: &[u8; CELLS],
     rim: Rim,
     region: u8,
     i: usize,

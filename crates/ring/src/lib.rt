@@ -10,17 +10,18 @@ ghost use Rattle.block.specs.Layout.{maxRows};
 ghost use Rattle.ring.specs.Ring.{link, circle, starts, smallest, maxRing, ringWith};
 ghost use Rattle.ring.specs.Found.{refusedWith, foundOf, edgeIn, linksOf, ends, following, linksIn, walked, LinkedRow, Table};
 use block::Answer;
+use block::MAX_ROWS;
 use mesh::Row;
 
 // The smallest and the largest m.
 const MIN_RING: usize = 3;
 
-const MAX_RING: usize = 10;
+pub const MAX_RING: usize = 10;
 
 // The ring: m points, v1 to vm from place 0 on; the places after them are zero.
 pub struct Ring {
     pub m: u8,
-    pub v: [u8; 10],
+    pub v: [u8; MAX_RING],
 }
 
 // What finding gives: the answer and, if it is done, the ring; with a refusal the ring has no points.
@@ -38,15 +39,15 @@ pub struct Link {
 // The n links round an edge, in the order of their rows: link i goes from starts[i] to ends[i].
 struct Links {
     n: usize,
-    starts: [u8; 60],
-    ends: [u8; 60],
+    starts: [u8; MAX_ROWS],
+    ends: [u8; MAX_ROWS],
 }
 
 // A walk: whether it came back to its start, and then the m points that it went by.
 struct Circle {
     closed: bool,
     m: usize,
-    v: [u8; 60],
+    v: [u8; MAX_ROWS],
 }
 
 // ---- the links
@@ -101,8 +102,8 @@ fn gather(table: &[u8], n: usize, a: u8, b: u8) -> Links
 {
     let mut links = Links {
         n: 0,
-        starts: [0; 60],
-        ends: [0; 60],
+        starts: [0; MAX_ROWS],
+        ends: [0; MAX_ROWS],
     };
     for i in 0..n {
         let row = mesh::row_in(table, i);
@@ -161,7 +162,7 @@ fn walk(links: Links, start: u8) -> Circle
     ensures { λ r. ⌜ (r .m ≤ length (r .v)) × (walked r ≡ circle (linksIn links) start) ⌝ }
 {
     let n = links.n;
-    let mut v = [0; 60];
+    let mut v = [0; MAX_ROWS];
     let mut here = start;
     let mut m: usize = 0;
     'walk: while m < n {
@@ -190,11 +191,11 @@ fn walk(links: Links, start: u8) -> Circle
 }
 
 // The ring of the first m points.
-fn ring_of(v: [u8; 60], m: usize) -> Ring
+fn ring_of(v: [u8; MAX_ROWS], m: usize) -> Ring
     requires { ⌜ m ≤ maxRing ⌝ }
     ensures { λ r. ⌜ r ≡ ringWith (take m v) ⌝ }
 {
-    let mut ring = [0; 10];
+    let mut ring = [0; MAX_RING];
     for i in 0..m {
         ring[i] = v[i];
     }
@@ -210,7 +211,10 @@ fn refused(number: u8) -> Found
 {
     Found {
         answer: Answer::Refused(number),
-        ring: Ring { m: 0, v: [0; 10] },
+        ring: Ring {
+            m: 0,
+            v: [0; MAX_RING],
+        },
     }
 }
 
