@@ -1,11 +1,11 @@
 -- Document 01, "Orientation, faces and the mesh rule".
 use Prim.Native.Nat.{ℕ, _+_, _*_, _<_}
 use mathlib.Core.Bool.{Bool, true, not, _&&_, _||_}
-use mathlib.Core.List.{List, [], _∷_, foldr, map}
+use mathlib.Core.List.{List, [], _∷_, _++_, foldr, map, flatMap}
 use mathlib.Core.Path.{_≡_}
 use lib.Dec.{T, eqb, ltb}
 use lib.IntN.{ℤ, pos, _+ℤ_}
-use lib.ListN.{length, getD}
+use lib.ListN.{length, getD, take, drop}
 use Rattle.lists.specs.Lists.{every, any, has, different, numbersFrom}
 use Rattle.measure.specs.declared.Point.{Point}
 use Rattle.measure.specs.declared.Quality.{Quality}
@@ -34,6 +34,14 @@ rowsIn table n = map (rowIn table) (numbersFrom 0 n)
 -- four point numbers, then the region
 abbrev pub rowBytes : Row → List ℕ
 rowBytes row = row .p ∷ row .q ∷ row .r ∷ row .s ∷ row .region ∷ []
+
+-- the bytes are written from a place on; every other byte stays
+abbrev pub pasted : List ℕ → ℕ → List ℕ → List ℕ
+pasted table at bytes = take at table ++ bytes ++ drop (at + length bytes) table
+
+-- rows are written from row number at on; every other byte stays
+abbrev pub withRows : List ℕ → ℕ → List Row → List ℕ
+withRows table at rows = pasted table (rowSize * at) (flatMap rowBytes rows)
 
 -- ---- rows and faces
 

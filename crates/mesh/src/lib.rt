@@ -1,12 +1,12 @@
 // Rows, directed faces and the mesh rule, on a table of rows as a byte slice with a count.
 ghost use mathlib.Core.Path.{_≡_};
 ghost use mathlib.Core.Bool.{not};
-ghost use mathlib.Core.List.{_++_};
+ghost use mathlib.Core.List.{[], _∷_, _++_};
 ghost use Prim.Native.Nat.{_+_, _*_, _<_, _≤_, min};
 ghost use lib.Dec.{ltb};
 ghost use lib.ListN.{length, take, drop};
 ghost use Rattle.lists.specs.Lists.{every, any, has, different};
-ghost use Rattle.mesh.specs.Mesh.{rowSize, rowIn, rowsIn, numbers, holds, holdsEdge, uses, numbersFit, facesApart, keepsMeshRule};
+ghost use Rattle.mesh.specs.Mesh.{rowSize, rowIn, rowsIn, withRows, numbers, holds, holdsEdge, uses, numbersFit, facesApart, keepsMeshRule};
 ghost use Rattle.mesh.specs.Keys.{mostRows, rowFaces, mostKeys, threeAsOne, faceKey, rowKeys, tableKeys, oneOf};
 
 // The bytes of a row, its faces, and the faces of the longest table: 60 rows of a block and one more while it is changed.
@@ -38,6 +38,19 @@ pub fn row_in(table: &[u8], i: usize) -> Row
         s: table[at + 3],
         region: table[at + 4],
     }
+}
+
+// Row i of a table is written; every other byte stays.
+pub fn put_row(table: &mut [u8], i: usize, row: Row)
+    requires { ⌜ rowSize * i + rowSize ≤ length (now table) ⌝ }
+    ensures { λ _. ⌜ now (table .exit) ≡ withRows (now (table .entry)) i (row ∷ []) ⌝ }
+{
+    let at = ROW_SIZE * i;
+    table[at] = row.p;
+    table[at + 1] = row.q;
+    table[at + 2] = row.r;
+    table[at + 3] = row.s;
+    table[at + 4] = row.region;
 }
 
 // The row holds point n.

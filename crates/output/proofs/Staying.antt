@@ -10,9 +10,9 @@ use Rattle.lists.specs.Lists.{every, those}
 use Rattle.lists.proofs.Lists.{those-yes, those-no, those-same}
 use Rattle.lists.proofs.Tests.{and-true}
 use Rattle.mesh.specs.declared.Row.{Row}
-use Rattle.mesh.specs.Mesh.{rowSize, rowBytes, rowIn, rowsIn, holds}
+use Rattle.mesh.specs.Mesh.{rowSize, rowBytes, rowIn, rowsIn, withRows, holds, holdsEdge}
 use Rattle.mesh.proofs.Tables.{rows-more}
-use Rattle.output.specs.Output.{stays, staying, pasted}
+use Rattle.output.specs.Output.{stays, staying}
 use Rattle.output.proofs.Tables.{front-more}
 
 twice : (a b : Bool) → a && (b && b) ≡ a && b
@@ -21,12 +21,12 @@ twice true false = refl
 twice false b = refl
 
 -- an edge
-pub edge-stays : (x y : ℕ) (row : Row) → stays x y y row ≡ not (holds row x && holds row y)
+pub edge-stays : (x y : ℕ) (row : Row) → stays x y y row ≡ not (holdsEdge x y row)
 unfolding stays
 edge-stays x y row = ap not (twice (holds row x) (holds row y))
 
-pub edge-staying : (x y : ℕ) (rows : List Row) → staying x y y rows ≡ those (λ row. not (holds row x && holds row y)) rows
-edge-staying x y rows = those-same (stays x y y) (λ row. not (holds row x && holds row y)) (edge-stays x y) rows
+pub edge-staying : (x y : ℕ) (rows : List Row) → staying x y y rows ≡ those (λ row. not (holdsEdge x y row)) rows
+edge-staying x y rows = those-same (stays x y y) (λ row. not (holdsEdge x y row)) (edge-stays x y) rows
 
 -- a face
 pub face-stays : (x y z : ℕ) (row : Row) → stays x y z row ≡ not (every (holds row) (x ∷ y ∷ z ∷ []))
@@ -45,7 +45,7 @@ module _ (x y z : ℕ) (table rest : List ℕ) where
 
   module _ (i k : ℕ) (rows : List ℕ) (front : Front i k rows) (row : Row) (row-is : row ≡ rowIn table i) (test : Bool) (test-is : test ≡ stays x y z row) where
     -- row i stays and is written behind them
-    pub stays-more : test ≡ true → (after : List ℕ) (next : ℕ) → after ≡ pasted rows (rowSize * k) (rowBytes row) → next ≡ k + 1 → Front (i + 1) next after
+    pub stays-more : test ≡ true → (after : List ℕ) (next : ℕ) → after ≡ withRows rows k (row ∷ []) → next ≡ k + 1 → Front (i + 1) next after
     stays-more e after next a n =
         let yes : stays x y z (rowIn table i) ≡ true = ap (stays x y z) (sym row-is) ∙ (sym test-is ∙ e) in
         let kept = staying x y z (rowsIn table i) in

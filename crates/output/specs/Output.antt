@@ -19,10 +19,6 @@ stays x y z row = not (holds row x && (holds row y && holds row z))
 abbrev pub staying : ℕ → ℕ → ℕ → List Row → List Row
 staying x y z rows = those (stays x y z) rows
 
--- the bytes are written from a place on; every other byte stays
-abbrev pub pasted : List ℕ → ℕ → List ℕ → List ℕ
-pasted table at bytes = take at table ++ bytes ++ drop (at + length bytes) table
-
 -- 60 rows of 5 bytes
 abbrev pub tableBytes : ℕ
 tableBytes = bodyBytes - rowsAt

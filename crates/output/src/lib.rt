@@ -5,26 +5,12 @@ ghost use Prim.Native.Nat.{_+_, _*_, _≤_};
 ghost use lib.ListN.{length, drop};
 ghost use Rattle.mesh.specs.Mesh.{rowSize, rowBytes, rowsIn};
 ghost use Rattle.block.specs.Layout.{fieldsOf, bytesOf};
-ghost use Rattle.output.specs.Output.{stays, staying, pasted, patchWith, Ready};
+ghost use Rattle.output.specs.Output.{stays, staying, patchWith, Ready};
 use block::BODY_BYTES;
 use block::ROWS_AT;
-use mesh::ROW_SIZE;
 use mesh::Row;
 
 // ---- rows in a scratch table
-
-// Row i of a table is written; every other byte stays.
-pub fn put_row(rows: &mut [u8], i: usize, row: Row)
-    requires { ⌜ rowSize * i + rowSize ≤ length (now rows) ⌝ }
-    ensures { λ _. ⌜ now (rows .exit) ≡ pasted (now (rows .entry)) (rowSize * i) (rowBytes row) ⌝ }
-{
-    let at = ROW_SIZE * i;
-    rows[at] = row.p;
-    rows[at + 1] = row.q;
-    rows[at + 2] = row.r;
-    rows[at + 3] = row.s;
-    rows[at + 4] = row.region;
-}
 
 // The row does not hold all three numbers; an edge is given with its second end twice.
 fn row_stays(row: Row, x: u8, y: u8, z: u8) -> bool
@@ -49,7 +35,7 @@ pub fn keep_others(table: &[u8], n: usize, x: u8, y: u8, z: u8, rows: &mut [u8])
     for i in 0..n {
         let row = mesh::row_in(table, i);
         if row_stays(row, x, y, z) {
-            put_row(rows, kept, row);
+            mesh::put_row(rows, kept, row);
             kept += 1;
         }
     }

@@ -11,7 +11,7 @@ use Rattle.lists.specs.Lists.{every, different}
 use Rattle.lists.proofs.Tests.{and-l, is-yes}
 use Rattle.lists.proofs.Lists.{every-at, those-split}
 use Rattle.mesh.specs.declared.Row.{Row}
-use Rattle.mesh.specs.Mesh.{rowSize, rowBytes, rowsIn, keepsMeshRule}
+use Rattle.mesh.specs.Mesh.{rowSize, rowBytes, rowsIn, withRows, keepsMeshRule}
 use Rattle.mesh.proofs.Tables.{rows-length}
 use Rattle.block.specs.declared.Answer.{Answer}
 use Rattle.block.specs.declared.Answer.the-variants.{Done, Refused}
@@ -19,7 +19,7 @@ use Rattle.block.specs.Layout.{Patch, blockBytes, maxRows, pointCount, rowCount
 use Rattle.block.specs.Answers.{firstRefusal, answerOf, openAnswer}
 use Rattle.block.proofs.Refusals.{answer-done, answer-refused}
 use Rattle.block.proofs.Written.{points-counted}
-use Rattle.output.specs.Output.{stays, staying, pasted, tableBytes, tableWith, patchWith, Ready}
+use Rattle.output.specs.Output.{stays, staying, tableBytes, tableWith, patchWith, Ready}
 use Rattle.output.proofs.Staying.{face-staying}
 use Rattle.output.proofs.Tables.{table-read, table-front, table-append}
 use Rattle.output.proofs.Written.{table-ready}
@@ -148,12 +148,12 @@ module _ (block out : List ℕ) (x y z : ℕ) (given : Given block out x y z) (f
             flip-refused block out x y z 13 (answer ∙ rw (given .numbers, none-10, none-11, none-18, rows-after, over))
 
         module _ (a14 : k + 3 ≤ maxRows) (v : ℕ) (v-is : v ≡ u) (table : List ℕ)
-            (table-is : table ≡ pasted kept (rowSize * k) (flatMap rowBytes (threeFrom v))) where
+            (table-is : table ≡ withRows kept k (threeFrom v)) where
           table-after : table ≡ tableWith after
           table-after =
               let front : kept ≡ tableWith (staying x y z rows) = kept-is ∙ (ap (λ n. flatMap rowBytes (staying x y z rows) ++ drop (rowSize * n) (replicate tableBytes 0)) k-is ∙ table-front (staying x y z rows)) in
-              table-is ∙ (ap (λ v. pasted kept (rowSize * k) (flatMap rowBytes (threeFrom v))) v-is ∙ (ap (λ l. pasted l (rowSize * k) (flatMap rowBytes three)) front
-              ∙ (ap (λ n. pasted (tableWith (staying x y z rows)) (rowSize * n) (flatMap rowBytes three)) k-is ∙ table-append (staying x y z rows) three)))
+              table-is ∙ (ap (λ v. withRows kept k (threeFrom v)) v-is ∙ (ap (λ l. withRows l k three) front
+              ∙ (ap (λ n. withRows (tableWith (staying x y z rows)) n three) k-is ∙ table-append (staying x y z rows) three)))
 
           read-after : rowsIn table (k + 3) ≡ after
           read-after = ap (λ l. rowsIn l (k + 3)) table-after ∙ (ap (λ n. rowsIn (tableWith after) n) size-after ∙ table-read after)

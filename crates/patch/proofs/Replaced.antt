@@ -9,7 +9,7 @@ use lib.ListN.{length, getD, drop, replicate, length-append, drop-of-length-le}
 use lib.Seq.{drop-cons}
 use Rattle.lists.specs.Lists.{those}
 use Rattle.mesh.specs.declared.Row.{Row}
-use Rattle.mesh.specs.Mesh.{rowSize, rowIn, rowsIn, rowBytes, noRow, holdsEdge}
+use Rattle.mesh.specs.Mesh.{rowSize, rowIn, rowsIn, rowBytes, noRow, holdsEdge, withRows}
 use Rattle.mesh.proofs.Tables.{rows-length, rows-at}
 use Rattle.block.specs.Layout.{maxRows}
 use Rattle.ring.specs.declared.Ring.{Ring}
@@ -19,7 +19,7 @@ use Rattle.pieces.specs.declared.Pieces.{Pieces}
 use Rattle.pieces.specs.Triangulation.{newRows, tableAfter, rowsAfter, regionOf}
 use Rattle.pieces.specs.Best.{Keeps, chosen, chosenOf, cellAt}
 use Rattle.pieces.specs.Filling.{siteIn, bestOf, readBest, cells}
-use Rattle.pieces.specs.Expanding.{Between, Follows, withRows}
+use Rattle.pieces.specs.Expanding.{Between, Follows}
 use Rattle.pieces.proofs.Optimal.{read-kept, kept-between, kept-follows}
 use Rattle.output.specs.Output.{staying, tableBytes, tableWith}
 use Rattle.output.proofs.Staying.{edge-staying}

@@ -1,14 +1,13 @@
 // The 2-3 flip: a face in two rows becomes an edge in three.
 ghost use mathlib.Core.Path.{_≡_};
 ghost use mathlib.Core.Bool.{not};
-ghost use mathlib.Core.List.{[], _∷_, flatMap};
+ghost use mathlib.Core.List.{[], _∷_};
 ghost use Prim.Native.Nat.{_+_, _*_, _≤_, _<_, min, max};
 ghost use lib.ListN.{length};
 ghost use Rattle.lists.specs.Lists.{has};
-ghost use Rattle.mesh.specs.Mesh.{rowSize, rowBytes, rowsIn};
+ghost use Rattle.mesh.specs.Mesh.{rowSize, rowsIn, withRows};
 ghost use Rattle.block.specs.Layout.{maxRows};
 ghost use Rattle.block.specs.Answers.{answerOf};
-ghost use Rattle.output.specs.Output.{pasted};
 ghost use Rattle.ring.specs.Ring.{link, smallest, numbersWrong};
 ghost use Rattle.ring.specs.Found.{LinkedRow};
 ghost use Rattle.patch.specs.Flipping.{holdsFace, apexOver, flip23Answer, flip23Bytes};
@@ -188,15 +187,15 @@ fn share(table: &[u8], n: usize, x: u8, y: u8, z: u8) -> Sharing
 fn put_three(rows: &mut [u8], at: usize, found: Sharing, u: u8)
     requires { ⌜ rowSize * (at + 3) ≤ length (now rows) ⌝ }
     requires { ⌜ LinkedRow (found .a) u (found .row) ⌝ }
-    ensures { λ _. ⌜ now (rows .exit) ≡ pasted (now (rows .entry)) (rowSize * at)
-        (flatMap rowBytes (threeOf found u (link (found .a) u (found .row) .0) (link (found .a) u (found .row) .1))) ⌝ }
+    ensures { λ _. ⌜ now (rows .exit) ≡ withRows (now (rows .entry)) at
+        (threeOf found u (link (found .a) u (found .row) .0) (link (found .a) u (found .row) .1)) ⌝ }
 {
     let a = found.a;
     let b = found.b;
     let region = found.region;
     let row = found.row;
     let after = ring::link_of(row, a, u);
-    output::put_row(
+    mesh::put_row(
         rows,
         at,
         Row {
@@ -207,7 +206,7 @@ fn put_three(rows: &mut [u8], at: usize, found: Sharing, u: u8)
             region,
         },
     );
-    output::put_row(
+    mesh::put_row(
         rows,
         at + 1,
         Row {
@@ -218,7 +217,7 @@ fn put_three(rows: &mut [u8], at: usize, found: Sharing, u: u8)
             region,
         },
     );
-    output::put_row(
+    mesh::put_row(
         rows,
         at + 2,
         Row {

@@ -5,41 +5,21 @@ use mathlib.Core.Option.{Option, none, some, Option·none-ne-some}
 use mathlib.Core.Path.{_≡_, refl, sym, ap, _∙_}
 use native.Mathlib.Omega.{arith}
 use lib.ListN.{length, getD, length-append}
-use Rattle.lists.proofs.Images.{flatMap-append}
 use Rattle.measure.specs.declared.Quality.{Quality}
 use Rattle.mesh.specs.declared.Row.{Row}
-use Rattle.mesh.specs.Mesh.{rowSize, rowBytes}
+use Rattle.mesh.specs.Mesh.{rowSize, withRows}
+use Rattle.mesh.proofs.Pasted.{with-more}
 use Rattle.ring.specs.Ring.{Site}
 use Rattle.pieces.specs.declared.Rim.{Rim}
 use Rattle.pieces.specs.Triangulation.{triangles, twoRows, newRows}
 use Rattle.pieces.specs.Best.{bestWorst, apex, cellAt, chosenOf}
 use Rattle.pieces.specs.Filling.{codedApex, twoOver}
-use Rattle.pieces.specs.Expanding.{pasted, withRows, rowsOver, Between, Follows}
+use Rattle.pieces.specs.Expanding.{rowsOver, Between, Follows}
 use Rattle.pieces.proofs.Split.{Cuts, cut-fits}
 use Rattle.pieces.proofs.Worsts.{rows-cut}
 use Rattle.pieces.proofs.Apex.{no-apex, apex-reaches, mark-apex}
 use Rattle.pieces.proofs.Chosen.{chosen-side, chosen-cut, chosen-way}
 use Rattle.pieces.proofs.Stored.{apex-over}
-use Rattle.pieces.proofs.Pasting.{pasted-none, pasted-more}
-
--- ---- rows next to rows
-
-bytes-length : (rows : List Row) → length (flatMap rowBytes rows) ≡ rowSize * length rows
-unfolding flatMap
-bytes-length [] = refl
-bytes-length (row ∷ rows) = let h = bytes-length rows in omega arith
-
-pub with-none : (table : List ℕ) (at : ℕ) {rows : List Row} → rows ≡ [] → table ≡ withRows table at rows
-unfolding flatMap
-with-none table at e = rw e (pasted-none table (rowSize * at))
-
-pub with-more : (table : List ℕ) (at next : ℕ) (xs ys : List Row) → at + length xs ≡ next → rowSize * (next + length ys) ≤ length table
-    → withRows (withRows table at xs) next ys ≡ withRows table at (xs ++ ys)
-with-more table at next xs ys e h =
-    let lx = bytes-length xs in
-    let ly = bytes-length ys in
-    pasted-more table (rowSize * at) (rowSize * next) (flatMap rowBytes xs) (flatMap rowBytes ys) (omega arith) (omega arith)
-    ∙ ap (pasted table (rowSize * at)) (sym (flatMap-append rowBytes xs ys))
 
 -- ---- the rows of the chosen triangulation
 

@@ -7,7 +7,6 @@ mod gathered;
 pub use candidates::best_at;
 pub use candidates::cell_at;
 pub use expanded::expand;
-pub use expanded::write_row;
 pub use filled::fill;
 use measure::Quality;
 use mesh::MOST_KEYS;

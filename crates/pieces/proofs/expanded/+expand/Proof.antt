@@ -7,8 +7,10 @@ use lib.ListN.{length}
 use denote.Ref.{now}
 use borrow.Fn.Kinds.{In}
 use borrow.Fn.PlainCycle.{Measures, is, falls, and}
-use Rattle.pieces.specs.Expanding.{rowsOver, withRows}
-use Rattle.pieces.proofs.Written.{all-written, left-between, left-follows, mark-rows, near-rows, right-between, right-follows, with-none}
+use Rattle.mesh.specs.Mesh.{withRows}
+use Rattle.mesh.proofs.Pasted.{with-none}
+use Rattle.pieces.specs.Expanding.{rowsOver}
+use Rattle.pieces.proofs.Written.{all-written, left-between, left-follows, mark-rows, near-rows, right-between, right-follows}
 use Rattle.pieces.proofs.expanded.expand.Reads as expand
 use Rattle.pieces.proofs.expanded.expand.Kinds as expand-kinds
 use Rattle.pieces.proofs.expanded.+expand.Lts-expand as expand-lts
