@@ -10,7 +10,7 @@ use native.Mathlib.Omega.{arith}
 use lib.Dec.{T, T-not, not-T}
 use lib.ListN.{length, take, drop, replicate, take-append-drop}
 use Rattle.lists.specs.Lists.{every, any, those, first, firstOr}
-use Rattle.lists.proofs.Tests.{and-l, and-r, and-i, or-l, or-r, or-e, neither-is, no-is, is-no, either, and-true, or-false}
+use Rattle.lists.proofs.Tests.{and-l, and-r, and-i, or-l, or-r, or-e, neither-is, yes-is, no-is, is-no, either, and-true, or-false}
 use Rattle.lists.proofs.Options.{some-is, none-not}
 use Rattle.lists.proofs.Places.{in-cases}
 
@@ -286,3 +286,41 @@ module _ {A : Type 0} (p q : A → Bool) where
 -- none passes where each does not
 pub not-any : {A : Type 0} (p : A → Bool) (xs : List A) → T (every (λ x. not (p x)) xs) → T (not (any p xs))
 not-any p xs h = is-no (any p xs) (every-none p (λ x. not (p x)) (λ x. no-is (p x)) xs h)
+
+-- those that all pass, those that none does, and the first in two lists
+
+module _ {A : Type 0} (p : A → Bool) where
+  pub those-all : (xs : List A) → T (every p xs) → those p xs ≡ xs
+  unfolding those every
+  those-all [] h = refl
+  those-all (x ∷ xs) h =
+      let e = yes-is (p x) (and-l (p x) (every p xs) h) in
+      rw (e, those-all xs (and-r (p x) (every p xs) h))
+
+  pub those-none : (xs : List A) → T (every (λ x. not (p x)) xs) → those p xs ≡ []
+  unfolding those every
+  those-none [] h = refl
+  those-none (x ∷ xs) h =
+      let e = no-is (p x) (and-l (not (p x)) (every (λ x. not (p x)) xs) h) in
+      rw e (those-none xs (and-r (not (p x)) (every (λ x. not (p x)) xs) h))
+
+  -- the first that passes stands in front, or behind where none in front does
+  pub first-front : (xs ys : List A) → T (any p xs) → first p (xs ++ ys) ≡ first p xs
+  unfolding first any
+  first-front [] ys h = absurd h
+  first-front (x ∷ xs) ys h = go (p x) h (first-front xs ys)
+    where
+      go : (b : Bool) → T (b || any p xs) → (T (any p xs) → first p (xs ++ ys) ≡ first p xs)
+          → cond b (some x) (first p (xs ++ ys)) ≡ cond b (some x) (first p xs)
+      go true h f = refl
+      go false h f = f h
+
+  pub first-behind : (xs ys : List A) → any p xs ≡ false → first p (xs ++ ys) ≡ first p ys
+  unfolding first any
+  first-behind [] ys h = refl
+  first-behind (x ∷ xs) ys h = go (p x) h (first-behind xs ys)
+    where
+      go : (b : Bool) → b || any p xs ≡ false → (any p xs ≡ false → first p (xs ++ ys) ≡ first p ys)
+          → cond b (some x) (first p (xs ++ ys)) ≡ first p ys
+      go true h f = absurd (subst T h tt)
+      go false h f = f h

@@ -1,7 +1,7 @@
 -- Lists of numbers: one that stands in a list, numbers all different, the numbers from i on, the largest and the first that pass.
-use Prim.Native.Nat.{ℕ, zero, suc, _+_, _-_, _≤_, _<_}
+use Prim.Native.Nat.{ℕ, zero, suc, _+_, _-_, _≤_, _<_, min, max}
 use mathlib.Core.Bool.{Bool, true, false, cond, not, _&&_, _||_}
-use mathlib.Core.List.{List, [], _∷_, _++_, map, map-append, List·Memᴰ, List·Memᴰ·head, List·Memᴰ·tail, List·Memᴰ·not-nil}
+use mathlib.Core.List.{List, [], _∷_, _++_, map, foldr, map-append, List·Memᴰ, List·Memᴰ·head, List·Memᴰ·tail, List·Memᴰ·not-nil}
 use mathlib.Core.Logic.{_⊎_, inl, inr}
 use mathlib.Core.Option.{none, some, Option·none-ne-some, Option·some-injective}
 use mathlib.Core.Path.{_≡_, refl, sym, ap, _∙_, subst}
@@ -285,3 +285,34 @@ unfolding first numbersFrom
 first-no p i zero f = refl
 first-no p i (suc n) f =
     rw (no-is (p i) (f i (omega arith) (omega arith))) (first-no p (suc i) n (λ l h k. f l (omega arith) (omega arith)))
+
+-- ---- the largest of some numbers, by what stands among them
+
+most-le : (ns : List ℕ) {n : ℕ} → List·Memᴰ n ns → n ≤ foldr max 0 ns
+most-le [] k = absurd (List·Memᴰ·not-nil k)
+most-le (x ∷ ns) k = in-cases k (λ e. omega arith) (λ k. let r = most-le ns k in omega arith)
+
+most-within : (ns : List ℕ) (k : ℕ) → ((n : ℕ) → List·Memᴰ n ns → n ≤ k) → foldr max 0 ns ≤ k
+most-within [] k h = omega arith
+most-within (x ∷ ns) k h =
+    let own = h x (List·Memᴰ·head refl) in
+    let rest = most-within ns k (λ n i. h n (List·Memᴰ·tail i)) in
+    omega arith
+
+-- it depends on what stands among them alone
+pub most-same : (ns ms : List ℕ) → ((n : ℕ) → List·Memᴰ n ns → List·Memᴰ n ms) → ((n : ℕ) → List·Memᴰ n ms → List·Memᴰ n ns)
+    → foldr max 0 ns ≡ foldr max 0 ms
+most-same ns ms to from =
+    let low = most-within ns (foldr max 0 ms) (λ n k. most-le ms (to n k)) in
+    let high = most-within ms (foldr max 0 ns) (λ n k. most-le ns (from n k)) in
+    omega arith
+
+-- one more at the end
+
+pub max-more : (p : ℕ) (ns : List ℕ) → foldr max 0 (ns ++ p ∷ []) ≡ max (foldr max 0 ns) p
+max-more p [] = omega arith
+max-more p (n ∷ ns) = rw (max-more p ns) (omega arith)
+
+pub min-more : (d p : ℕ) (ns : List ℕ) → foldr min d (ns ++ p ∷ []) ≡ min (foldr min d ns) p
+min-more d p [] = omega arith
+min-more d p (n ∷ ns) = rw (min-more d p ns) (omega arith)

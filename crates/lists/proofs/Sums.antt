@@ -1,12 +1,14 @@
 -- Sums over lists. A list with no repetition whose elements all stand in another list of the same length has the same sum:
 -- one element after another is taken out of the other list.
-use Prim.Native.Nat.{suc, _≤_}
-use mathlib.Core.List.{List, [], _∷_, _++_, map, foldr, List·Memᴰ, List·Memᴰ·head, List·Memᴰ·tail}
+use Prim.Native.Nat.{ℕ, zero, suc, _+_, _≤_, _<_}
+use mathlib.Core.List.{List, [], _∷_, _++_, map, foldr, List·Memᴰ, List·Memᴰ·head, List·Memᴰ·tail, Memᴰ·of-map}
 use mathlib.Core.Path.{_≡_, refl, sym, ap, _∙_}
 use native.Mathlib.Omega.{arith}
 use lib.IntN.{ℤ, pos, _+ℤ_, +ℤ-idl, +ℤ-assoc, +ℤ-comm}
 use lib.ListN.{length}
+use Rattle.lists.specs.Lists.{numbersFrom}
 use Rattle.lists.proofs.Places.{in-cases}
+use Rattle.lists.proofs.Numbers.{numbers-e}
 
 module _ {A : Type 0} where
   -- the list without the element that stands at a place
@@ -62,3 +64,21 @@ module _ {A : Type 0} where
       where
         subst-mem : {z : A} → z ≡ y → List·Memᴰ z ys → List·Memᴰ y ys
         subst-mem e k = rw e at k
+
+-- a sum over a list is a sum over its images
+pub sum-through : {A B : Type 0} (g : A → ℤ) (h : B → ℤ) (k : A → B) (xs : List A) → ((x : A) → List·Memᴰ x xs → g x ≡ h (k x))
+    → sumOver g xs ≡ sumOver h (map k xs)
+sum-through g h k [] e = refl
+sum-through g h k (x ∷ xs) e =
+    ap (λ z. z +ℤ sumOver g xs) (e x (List·Memᴰ·head refl)) ∙ ap (λ z. h (k x) +ℤ z) (sum-through g h k xs (λ y m. e y (List·Memᴰ·tail m)))
+
+-- what is made of different numbers is made once
+pub single-map : {B : Type 0} (g : ℕ → B) (i n : ℕ) → ((j k : ℕ) → i ≤ j → j < k → k < i + n → g k ≡ g j → ⊥) → Single (map g (numbersFrom i n))
+unfolding numbersFrom
+single-map g i zero apart = none
+single-map g i (suc n) apart =
+    one-more (λ m.
+    let (k, at, e) = Memᴰ·of-map g (numbersFrom (suc i) n) m in
+    let (low, high) = numbers-e (suc i) n at in
+    apart i k (omega arith) low (omega arith) e)
+    (single-map g (suc i) n (λ j k low less high e. apart j k (omega arith) less (omega arith) e))

@@ -7,7 +7,7 @@ use borrow.Author.Tests.{eqb-true, eqb-false, eq-eqb, ltb-false, not-false}
 use lib.Dec.{T, eqb, ltb}
 use lib.ListN.{length}
 use Rattle.lists.specs.Lists.{every}
-use Rattle.lists.proofs.Tests.{and-l, and-r, no-is, is-yes, neither-is}
+use Rattle.lists.proofs.Tests.{and-l, and-r, no-is, is-yes, neither-is, or-true}
 use Rattle.mesh.specs.Mesh.{keepsMeshRule}
 use Rattle.block.specs.Layout.{blockBytes, maxRows, fieldsOf}
 use Rattle.block.specs.Answers.{Tests, firstRefusal, notBlock, sumWrong, bodyTests, openAnswer}
@@ -15,7 +15,6 @@ use Rattle.block.proofs.Refusals.{passed, goes-on, refuses}
 use Rattle.ring.specs.Ring.{Site, siteOf, m, minRing, numbersWrong, lengthWrong, edgeTests}
 use Rattle.patch.specs.Removing.{blockTests, noRoom, noWay, noneBetter, patchAfter, totalDiffers, removalTests, removeAnswer, Sound}
 use Rattle.patch.specs.Flipping.{flip32Tests, flip32Answer, pairOf, patchAfter23, flip23Tests, flip23Answer}
-use Rattle.patch.proofs.Lists.{or-true}
 
 -- ---- tests one after another
 
@@ -93,7 +92,7 @@ block-opened block out rest opens = go (eqb (length out) blockBytes) refl
         front-passed (blockTests block out) rest (block-numbered block out) (passed-block block out opens (eqb-true (length out) blockBytes e))
         ∙ sym (goes-on 1 (notBlock out) rest (ap not e))
     go false e =
-        refuses 1 (notBlock block || notBlock out) _ (or-true (notBlock block) (notBlock out) (ap not e))
+        refuses 1 (notBlock block || notBlock out) _ (ap (λ b. notBlock block || not b) e ∙ or-true (notBlock block))
         ∙ sym (refuses 1 (notBlock out) rest (ap not e))
 
 -- what is left to test behind them

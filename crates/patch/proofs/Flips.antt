@@ -10,7 +10,7 @@ use borrow.Author.Tests.{eqb-false}
 use lib.Dec.{T, eqb, ltb}
 use lib.ListN.{length, length-append}
 use Rattle.lists.specs.Lists.{different}
-use Rattle.lists.proofs.Numbers.{has-i, has-e}
+use Rattle.lists.proofs.Numbers.{has-i, has-e, most-same}
 use Rattle.lists.proofs.Lists.{every-same}
 use Rattle.lists.proofs.Places.{in-cases}
 use Rattle.measure.specs.declared.Point.{Point}
@@ -26,11 +26,11 @@ use Rattle.block.specs.Answers.{Tests, firstRefusal, notBlock}
 use Rattle.block.proofs.Refusals.{passed, refuses}
 use Rattle.ring.specs.Ring.{Link, link, numbersWrong}
 use Rattle.ring.proofs.Linking.{link-is}
+use Rattle.ring.proofs.Rounding.{smallest-same}
 use Rattle.ring.proofs.Order.{row-across}
 use Rattle.pieces.proofs.Across.{those-across, length-across}
 use Rattle.patch.specs.Flipping.{holdsFace, apexOver, Pair, pairOf, threeRows, patchAfter23, flip23Tests, flip23Answer}
 use Rattle.patch.specs.Demands.{SameMesh, AnyRowOrder23}
-use Rattle.patch.proofs.Lists.{most-same, least-same}
 use Rattle.patch.proofs.Answering.{same-behind, block-opened, flips-23}
 use Rattle.patch.proofs.Sites.{opens-rule}
 use Rattle.patch.proofs.Pairs.{Over}
@@ -109,7 +109,7 @@ module _ (block other : List ℕ) (x y z : ℕ) (same : SameMesh block other) wh
     a-same : here .a ≡ there .a
     unfolding pairOf
     a-same =
-        least-same (map (apexOver list) (here .removed)) (map (apexOver list) (there .removed))
+        smallest-same (map (apexOver list) (here .removed)) (map (apexOver list) (there .removed))
         (apexes-to block other x y z same apart) (apexes-to other block x y z (other-way same) apart)
 
     b-same : here .b ≡ there .b

@@ -13,8 +13,8 @@ use lib.Dec.{T, eqb, ltb, eqb→eq, T-not, not-T}
 use lib.ListN.{length, length-append, length-map}
 use Rattle.lists.specs.Lists.{every, any, those, first, firstOr, has, different}
 use Rattle.lists.proofs.Tests.{and-l, and-r, and-i, either, no-is, eq-test}
-use Rattle.lists.proofs.Lists.{every-at, any-i, any-e, those-e, those-append, those-split, first-found}
-use Rattle.lists.proofs.Numbers.{has-i, has-e, no-more}
+use Rattle.lists.proofs.Lists.{every-at, any-i, any-e, those-e, those-append, those-split, first-front, first-behind, first-found}
+use Rattle.lists.proofs.Numbers.{has-i, has-e, no-more, max-more, min-more}
 use Rattle.mesh.specs.declared.Row.{Row}
 use Rattle.mesh.specs.Mesh.{rowIn, rowsIn, numbers, holds, numbersFit, noRow, keepsMeshRule}
 use Rattle.mesh.proofs.Tables.{rows-more}
@@ -30,39 +30,9 @@ use Rattle.patch.specs.Pairing.{sharing, sharingIn, withRow, threeOf}
 
 -- ---- one more at the end
 
-min-more : (d p : ℕ) (ns : List ℕ) → foldr min d (ns ++ p ∷ []) ≡ min (foldr min d ns) p
-min-more d p [] = omega arith
-min-more d p (n ∷ ns) = rw (min-more d p ns) (omega arith)
-
 smallest-more : (n : ℕ) (ns : List ℕ) (p : ℕ) → smallest (n ∷ (ns ++ p ∷ [])) ≡ min (smallest (n ∷ ns)) p
 unfolding smallest
 smallest-more n ns p = min-more n p ns
-
-max-more : (p : ℕ) (ns : List ℕ) → foldr max 0 (ns ++ p ∷ []) ≡ max (foldr max 0 ns) p
-max-more p [] = omega arith
-max-more p (n ∷ ns) = rw (max-more p ns) (omega arith)
-
-module _ {A : Type 0} (q : A → Bool) where
-  -- the first that passes stands in front, or behind where none in front does
-  first-front : (xs ys : List A) → T (any q xs) → first q (xs ++ ys) ≡ first q xs
-  unfolding first any
-  first-front [] ys h = absurd h
-  first-front (x ∷ xs) ys h = go (q x) h (first-front xs ys)
-    where
-      go : (b : Bool) → T (b || any q xs) → (T (any q xs) → first q (xs ++ ys) ≡ first q xs)
-          → cond b (some x) (first q (xs ++ ys)) ≡ cond b (some x) (first q xs)
-      go true h f = refl
-      go false h f = f h
-
-  first-behind : (xs ys : List A) → any q xs ≡ false → first q (xs ++ ys) ≡ first q ys
-  unfolding first any
-  first-behind [] ys h = refl
-  first-behind (x ∷ xs) ys h = go (q x) h (first-behind xs ys)
-    where
-      go : (b : Bool) → b || any q xs ≡ false → (any q xs ≡ false → first q (xs ++ ys) ≡ first q ys)
-          → cond b (some x) (first q (xs ++ ys)) ≡ first q ys
-      go true h f = absurd (subst T h tt)
-      go false h f = f h
 
 -- ---- the rows that hold a face
 

@@ -10,7 +10,7 @@ use lib.Dec.{T}
 use lib.ListN.{length}
 use Rattle.lists.specs.Lists.{every, any, has, different}
 use Rattle.lists.proofs.Tests.{and-i, yes-is}
-use Rattle.lists.proofs.Lists.{every-at, every-i, those-append, every-cons}
+use Rattle.lists.proofs.Lists.{every-at, every-i, those-append, those-all, those-none, every-cons}
 use Rattle.lists.proofs.Numbers.{has-i}
 use Rattle.lists.proofs.Places.{in-cases}
 use Rattle.measure.specs.declared.Point.{Point}
@@ -27,7 +27,6 @@ use Rattle.ring.proofs.Closing.{closes-i}
 use Rattle.ring.proofs.Rounding.{smallest-is}
 use Rattle.pieces.specs.Triangulation.{Tri, side, cut, span, triangles, twoRows, newRows, tableAfter}
 use Rattle.pieces.proofs.Ways.{span-over}
-use Rattle.patch.proofs.Lists.{those-all, those-none}
 use Rattle.patch.proofs.Orders.{ThreeApart, apart-three}
 
 -- ---- three links

@@ -27,7 +27,7 @@ use Rattle.ring.specs.Ring.{starts, smallest, ringOf, siteOf, numbersWro
 use Rattle.ring.specs.Found.{linksOf, ringTests, foundOf}
 use Rattle.ring.proofs.Linking.{starts-different, link-even}
 use Rattle.ring.proofs.Walking.{back-or-on, stepped, next-in, next-is}
-use Rattle.ring.proofs.Rounding.{smallest-in, smallest-le, smallest-is}
+use Rattle.ring.proofs.Rounding.{smallest-same}
 
 -- ---- the order of the ends
 
@@ -97,23 +97,9 @@ module _ (ls ks : List Link) (once : T (different (starts ls))) (once' : T (diff
   circle-same : (v : ℕ) → circle ls v ≡ circle ks v
   circle-same v = rw length-same (walk-same (length ks) v v)
 
-  smallest-same : smallest (starts ls) ≡ smallest (starts ks)
-  unfolding smallest
-  smallest-same = go (decLt 0 (length ls))
-    where
-      empty : (links : List Link) → length links ≤ 0 → starts links ≡ []
-      empty [] h = refl
-      empty (l ∷ links) h = absurd (omega arith)
-
-      go : Dec (0 < length ls) → smallest (starts ls) ≡ smallest (starts ks)
-      go (yes h) =
-          let m = smallest-in (starts ls) (omega (arith, length-map ls (λ (l : Link). l .0))) in
-          smallest-is (starts ks) (smallest (starts ls)) (to-start _ m) (λ n k. smallest-le (starts ls) (from-start n k))
-      go (no h) = rw (empty ls (omega arith), empty ks (omega (arith, length-same)))
-
   pub ring-same : ringOf ls ≡ ringOf ks
   unfolding ringOf
-  ring-same = ap (λ o. Option·getD o []) (ap (circle ls) smallest-same ∙ circle-same (smallest (starts ks)))
+  ring-same = ap (λ o. Option·getD o []) (ap (circle ls) (smallest-same (starts ls) (starts ks) to-start from-start) ∙ circle-same (smallest (starts ks)))
 
   -- a test of each start
   each-same : (p q : ℕ → Bool) → ((n : ℕ) → p n ≡ q n) → every p (starts ls) ≡ every q (starts ks)

@@ -55,6 +55,17 @@ smallest-is ns n m f =
     let high = f (smallest ns) (smallest-in ns (in-length ns m)) in
     omega arith
 
+smallest-none : (ns : List ℕ) → ((n : ℕ) → List·Memᴰ n ns → List·Memᴰ n []) → smallest ns ≡ smallest []
+smallest-none [] nothing = refl
+smallest-none (n ∷ ns) nothing = absurd (List·Memᴰ·not-nil (nothing n (List·Memᴰ·head refl)))
+
+-- it depends on what stands among them alone
+pub smallest-same : (ns ms : List ℕ) → ((n : ℕ) → List·Memᴰ n ns → List·Memᴰ n ms) → ((n : ℕ) → List·Memᴰ n ms → List·Memᴰ n ns)
+    → smallest ns ≡ smallest ms
+smallest-same [] ms to from = sym (smallest-none ms from)
+smallest-same (n ∷ ns) ms to from =
+    smallest-is ms (smallest (n ∷ ns)) (to _ (smallest-in (n ∷ ns) (omega arith))) (λ k i. smallest-le (n ∷ ns) (from k i))
+
 -- ---- the ring of links
 
 -- The ring goes round by all the links, from its smallest point, and meets no point twice.
