@@ -1,4 +1,5 @@
--- Bytes and rows written into a table from a place on: behind a front they follow it, and what is written behind what was written is one piece.
+-- Bytes and rows written into a table from a place on:
+-- behind a front they follow it, and what is written behind what was written is one piece.
 use Prim.Native.Nat.{ℕ, _+_, _*_, _≤_}
 use mathlib.Core.List.{List, [], _∷_, _++_, append-assoc, append-nil, flatMap}
 use mathlib.Core.Path.{_≡_, refl, sym, ap, _∙_}
@@ -13,7 +14,8 @@ use Rattle.mesh.specs.Mesh.{rowSize, rowBytes, pasted, withRows}
 -- ---- bytes
 
 -- bytes behind a front
-pub pasted-behind : (front rest bytes : List ℕ) (n : ℕ) → length front ≡ n → pasted (front ++ rest) n bytes ≡ front ++ bytes ++ drop (length bytes) rest
+pub pasted-behind : (front rest bytes : List ℕ) (n : ℕ) → length front ≡ n
+    → pasted (front ++ rest) n bytes ≡ front ++ bytes ++ drop (length bytes) rest
 pasted-behind front rest bytes n h =
     rw (take-at front rest n h, ← h, drop-append-add front rest (length bytes))
 

@@ -6,7 +6,8 @@ ghost use Prim.Native.Nat.{_+_, _*_, _<_, _≤_, min};
 ghost use lib.Dec.{ltb};
 ghost use lib.ListN.{length, take, drop};
 ghost use Rattle.lists.specs.Lists.{every, any, has, different};
-ghost use Rattle.mesh.specs.Mesh.{rowSize, rowIn, rowsIn, withRows, numbers, holds, holdsEdge, uses, numbersFit, facesApart, keepsMeshRule};
+ghost use Rattle.mesh.specs.Mesh.{rowSize, rowIn, rowsIn, withRows, numbers, holds, holdsEdge, uses, numbersFit, facesApart};
+ghost use Rattle.mesh.specs.Mesh.{keepsMeshRule};
 ghost use Rattle.mesh.specs.Keys.{mostRows, rowFaces, mostKeys, threeAsOne, faceKey, rowKeys, tableKeys, oneOf};
 
 // The bytes of a row, its faces, and the faces of the longest table: 60 rows of a block and one more while it is changed.
@@ -222,7 +223,8 @@ fn some_among(keys: &[u32; MOST_KEYS], n: usize, a: u32, b: u32, c: u32, d: u32)
 // No key of row i stands among the keys of the rows before it.
 fn row_apart(keys: &[u32; MOST_KEYS], i: usize) -> bool
     requires { ⌜ (length (now keys) ≡ mostKeys) × (i < mostRows) ⌝ }
-    ensures { λ r. ⌜ r ≡ every (λ k. not (has (take (rowFaces * i) (now (keys .entry))) k)) (take rowFaces (drop (rowFaces * i) (now (keys .entry)))) ⌝ }
+    ensures { λ r. ⌜ r ≡ every (λ k. not (has (take (rowFaces * i) (now (keys .entry))) k))
+        (take rowFaces (drop (rowFaces * i) (now (keys .entry)))) ⌝ }
 {
     let at = ROW_FACES * i;
     !some_among(keys, at, keys[at], keys[at + 1], keys[at + 2], keys[at + 3])

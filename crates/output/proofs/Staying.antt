@@ -41,11 +41,14 @@ face-staying x y z rows = those-same (stays x y z) (λ row. not (every (holds ro
 module _ (x y z : ℕ) (table rest : List ℕ) where
   -- the rows that stay, of the first i, are k and stand at the front of a table
   abbrev pub Front : ℕ → ℕ → List ℕ → Type 0
-  Front i k rows = (k ≡ length (staying x y z (rowsIn table i))) × (rows ≡ flatMap rowBytes (staying x y z (rowsIn table i)) ++ drop (rowSize * k) rest)
+  Front i k rows = (k ≡ length (staying x y z (rowsIn table i)))
+      × (rows ≡ flatMap rowBytes (staying x y z (rowsIn table i)) ++ drop (rowSize * k) rest)
 
-  module _ (i k : ℕ) (rows : List ℕ) (front : Front i k rows) (row : Row) (row-is : row ≡ rowIn table i) (test : Bool) (test-is : test ≡ stays x y z row) where
+  module _ (i k : ℕ) (rows : List ℕ) (front : Front i k rows) (row : Row) (row-is : row ≡ rowIn table i) (test : Bool)
+      (test-is : test ≡ stays x y z row) where
     -- row i stays and is written behind them
-    pub stays-more : test ≡ true → (after : List ℕ) (next : ℕ) → after ≡ withRows rows k (row ∷ []) → next ≡ k + 1 → Front (i + 1) next after
+    pub stays-more : test ≡ true → (after : List ℕ) (next : ℕ) → after ≡ withRows rows k (row ∷ []) → next ≡ k + 1
+        → Front (i + 1) next after
     stays-more e after next a n =
         let yes : stays x y z (rowIn table i) ≡ true = ap (stays x y z) (sym row-is) ∙ (sym test-is ∙ e) in
         let kept = staying x y z (rowsIn table i) in

@@ -50,7 +50,8 @@ module _ (rows : List Row) where
       ∙ ap (λ bytes. bytes ++ replicate (tableBytes - length bytes) 0) (sym (flatMap-append rowBytes rows others))
 
 -- rows at the front of a table, and the rest as it was
-module _ (kept : List Row) (rest table : List ℕ) (k : ℕ) (n : k ≡ length kept) (t : table ≡ flatMap rowBytes kept ++ drop (rowSize * k) rest) where
+module _ (kept : List Row) (rest table : List ℕ) (k : ℕ) (n : k ≡ length kept)
+    (t : table ≡ flatMap rowBytes kept ++ drop (rowSize * k) rest) where
   kept-size : length (flatMap rowBytes kept) ≡ rowSize * k
   kept-size = rows-size kept ∙ ap (λ n. rowSize * n) (sym n)
 
@@ -66,5 +67,6 @@ module _ (kept : List Row) (rest table : List ℕ) (k : ℕ) (n : k ≡ length k
       let next : rowSize * k + rowSize ≡ rowSize * (k + 1) = omega arith in
       let behind = pasted-behind (flatMap rowBytes kept) (drop (rowSize * k) rest) (rowBytes row) (rowSize * k) kept-size in
       let bytes = flatMap-snoc rowBytes kept row in
-      let end : drop rowSize (drop (rowSize * k) rest) ≡ drop (rowSize * (k + 1)) rest = drop-drop rowSize (rowSize * k) rest ∙ ap (λ i. drop i rest) next in
+      let end : drop rowSize (drop (rowSize * k) rest) ≡ drop (rowSize * (k + 1)) rest =
+      drop-drop rowSize (rowSize * k) rest ∙ ap (λ i. drop i rest) next in
       a ∙ (ap (λ l. withRows l k (row ∷ [])) t ∙ (behind ∙ rw (end, bytes)))

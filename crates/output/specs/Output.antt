@@ -1,9 +1,9 @@
 -- Document 01, "Ring and replacement" and "Plain flips": the block afterwards, from the rows that stay and the new rows behind them.
-use Prim.Native.Nat.{ℕ, _+_, _-_, _*_, _≤_}
+use Prim.Native.Nat.{ℕ, _-_, _*_, _≤_}
 use mathlib.Core.Bool.{Bool, not, _&&_}
-use mathlib.Core.List.{List, _++_, flatMap}
+use mathlib.Core.List.{List, flatMap}
 use mathlib.Core.Path.{_≡_}
-use lib.ListN.{length, take, drop, replicate}
+use lib.ListN.{length, drop, replicate}
 use Rattle.lists.specs.Lists.{those}
 use Rattle.measure.specs.declared.Point.{Point}
 use Rattle.mesh.specs.declared.Row.{Row}

@@ -1,7 +1,7 @@
 // The block afterwards: the rows that stay, the new rows behind them, and the sums made anew.
 ghost use mathlib.Core.Path.{_≡_};
 ghost use mathlib.Core.List.{_++_, flatMap};
-ghost use Prim.Native.Nat.{_+_, _*_, _≤_};
+ghost use Prim.Native.Nat.{_*_, _≤_};
 ghost use lib.ListN.{length, drop};
 ghost use Rattle.mesh.specs.Mesh.{rowSize, rowBytes, rowsIn};
 ghost use Rattle.block.specs.Layout.{fieldsOf, bytesOf};
@@ -29,7 +29,8 @@ fn row_stays(row: Row, x: u8, y: u8, z: u8) -> bool
 pub fn keep_others(table: &[u8], n: usize, x: u8, y: u8, z: u8, rows: &mut [u8]) -> usize
     requires { ⌜ (rowSize * n ≤ length (now table)) × (rowSize * n ≤ length (now rows)) ⌝ }
     ensures { λ r. ⌜ (r ≡ length (staying x y z (rowsIn (now (table .entry)) n)))
-        × (now (rows .exit) ≡ flatMap rowBytes (staying x y z (rowsIn (now (table .entry)) n)) ++ drop (rowSize * r) (now (rows .entry))) ⌝ }
+        × (now (rows .exit) ≡ flatMap rowBytes (staying x y z (rowsIn (now (table .entry)) n))
+        ++ drop (rowSize * r) (now (rows .entry))) ⌝ }
 {
     let mut kept: usize = 0;
     for i in 0..n {

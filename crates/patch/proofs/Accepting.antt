@@ -81,7 +81,8 @@ room block out e f sound size low high = (λ h. go (noRoom its) refl (sym first 
     go : (b : Bool) → noRoom its ≡ b → firstRefusal ((14, noRoom its) ∷ rest) ≡ 14 → maxRows < length (fieldsOf block .rows) + m its - 4
     go true h k = omega (arith, ltb-true maxRows (rowsAfter its) h, rows-after block e f sound low)
     go false h k =
-        absurd (not-14 (noWay its) (noneBetter its) (totalDiffers (fieldsOf block) (patchAfter its)) (sym (goes-on 14 (noRoom its) rest h) ∙ k))
+        absurd (not-14 (noWay its) (noneBetter its) (totalDiffers (fieldsOf block) (patchAfter its))
+        (sym (goes-on 14 (noRoom its) rest h) ∙ k))
 
 -- ---- the calls
 
@@ -92,7 +93,8 @@ unfolding removeBytes
 remove-accepted block out e f h =
     let r = removes block out e f h in
     let site = siteOf (fieldsOf block) e f in
-    rw h (site-accepted block e f (r .sound) (length-fits site (r .length-right) .0) (r .way) (ltb-false maxRows (rowsAfter site) (r .room)))
+    rw h (site-accepted block e f (r .sound) (length-fits site (r .length-right) .0) (r .way)
+    (ltb-false maxRows (rowsAfter site) (r .room)))
 
 pub flip32-accepted : (block out : List ℕ) (e f : ℕ) → flip32Answer block out e f ≡ 0
     → let site = siteOf (fieldsOf block) e f in

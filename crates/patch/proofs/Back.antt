@@ -25,7 +25,8 @@ use Rattle.pieces.specs.Triangulation.{side, cut, span, regionOf, tableAfter}
 use Rattle.pieces.specs.Admissible.{admissible}
 use Rattle.pieces.specs.Best.{chosen}
 use Rattle.patch.specs.Removing.{Sound}
-use Rattle.patch.specs.Flipping.{flip32Tests, flip32Answer, flip32Bytes, holdsFace, Pair, pairOf, threeRows, patchAfter23, flip23Answer, flip23Bytes}
+use Rattle.patch.specs.Flipping.{flip32Tests, flip32Answer, flip32Bytes, holdsFace, Pair, pairOf, threeRows, patchAfter23}
+use Rattle.patch.specs.Flipping.{flip23Answer, flip23Bytes}
 use Rattle.patch.specs.Demands.{Way, Flipped, BroughtBack}
 use Rattle.patch.proofs.Answering.{flips-23, flip32-left}
 use Rattle.patch.proofs.Sites.{opens-rule}

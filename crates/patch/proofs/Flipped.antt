@@ -50,7 +50,8 @@ unfolding flip23Bytes
 flip-done block out after x y z e w = (rw e, rw e w)
 
 -- no more rows are kept than there are
-pub few-kept : (block : List ℕ) (x y z : ℕ) → openAnswer block ≡ 0 → length (staying x y z (rowsIn (tableOf block) (rowCount block))) ≤ maxRows
+pub few-kept : (block : List ℕ) (x y z : ℕ) → openAnswer block ≡ 0
+    → length (staying x y z (rowsIn (tableOf block) (rowCount block))) ≤ maxRows
 few-kept block x y z opens =
     let rows = rowsIn (tableOf block) (rowCount block) in
     omega (arith, those-split (stays x y z) rows, rows-length (tableOf block) (rowCount block), few-rows block opens)
@@ -100,7 +101,8 @@ module _ (block out : List ℕ) (x y z : ℕ) (given : Given block out x y z) (f
       -- 18: both apexes are one point
       pub is-18 : found .a ≡ found .b → Said block out x y z (Refused 18) out
       unfolding flip23Tests firstRefusal
-      is-18 a = flip-refused block out x y z 17 (answer ∙ rw (given .numbers, none-10, none-11, eq-eqb (pair .a) (pair .b) (sym (ap (λ s. s .a) pair-is) ∙ (a ∙ ap (λ s. s .b) pair-is))))
+      is-18 a = flip-refused block out x y z 17 (answer
+          ∙ rw (given .numbers, none-10, none-11, eq-eqb (pair .a) (pair .b) (sym (ap (λ s. s .a) pair-is) ∙ (a ∙ ap (λ s. s .b) pair-is))))
 
       module _ (a18 : found .a ≡ found .b → ⊥) (k : ℕ) (kept : List ℕ) (k-is : k ≡ length (staying x y z rows))
           (kept-is : kept ≡ flatMap rowBytes (staying x y z rows) ++ drop (rowSize * k) (replicate tableBytes 0)) where
@@ -151,7 +153,9 @@ module _ (block out : List ℕ) (x y z : ℕ) (given : Given block out x y z) (f
             (table-is : table ≡ withRows kept k (threeFrom v)) where
           table-after : table ≡ tableWith after
           table-after =
-              let front : kept ≡ tableWith (staying x y z rows) = kept-is ∙ (ap (λ n. flatMap rowBytes (staying x y z rows) ++ drop (rowSize * n) (replicate tableBytes 0)) k-is ∙ table-front (staying x y z rows)) in
+              let front : kept ≡ tableWith (staying x y z rows) = kept-is
+              ∙ (ap (λ n. flatMap rowBytes (staying x y z rows) ++ drop (rowSize * n) (replicate tableBytes 0)) k-is
+              ∙ table-front (staying x y z rows)) in
               table-is ∙ (ap (λ v. withRows kept k (threeFrom v)) v-is ∙ (ap (λ l. withRows l k three) front
               ∙ (ap (λ n. withRows (tableWith (staying x y z rows)) n three) k-is ∙ table-append (staying x y z rows) three)))
 
@@ -160,7 +164,8 @@ module _ (block out : List ℕ) (x y z : ℕ) (given : Given block out x y z) (f
 
           -- the table may be written
           pub after-ready : Ready block table (k + 3) out
-          after-ready = rw (table-after, size-after) (table-ready block out after (given .opens) (given .output) (omega (arith, size-after)))
+          after-ready = rw (table-after, size-after)
+              (table-ready block out after (given .opens) (given .output) (omega (arith, size-after)))
 
           module _ (test : Bool) (test-is : test ≡ keepsMeshRule (pointCount block) (rowsIn table (k + 3))) where
             test-after : keepsMeshRule (length (patch .points)) after ≡ test
@@ -172,19 +177,24 @@ module _ (block out : List ℕ) (x y z : ℕ) (given : Given block out x y z) (f
             -- 15: the table afterwards would break the mesh rule
             pub is-15 : test ≡ false → Said block out x y z (Refused 15) out
             unfolding flip23Tests firstRefusal
-            is-15 a = flip-refused block out x y z 14 (answer ∙ rw (given .numbers, none-10, none-11, none-18, rows-after, few, test-after ∙ a))
+            is-15 a = flip-refused block out x y z 14 (answer
+                ∙ rw (given .numbers, none-10, none-11, none-18, rows-after, few, test-after ∙ a))
 
             -- done
-            pub is-0 : test ≡ true → (written : List ℕ) → written ≡ bytesOf (patchWith (patch .points) (rowsIn table (k + 3))) → Said block out x y z Done written
+            pub is-0 : test ≡ true → (written : List ℕ) → written ≡ bytesOf (patchWith (patch .points) (rowsIn table (k + 3)))
+                → Said block out x y z Done written
             unfolding flip23Tests firstRefusal
             is-0 a written w =
-                let zero-is : flip23Answer block out x y z ≡ 0 = answer ∙ rw (given .numbers, none-10, none-11, none-18, rows-after, few, test-after ∙ a) in
-                flip-done block out written x y z zero-is (w ∙ (ap (λ l. bytesOf (patchWith (patch .points) l)) (read-after ∙ sym rows-after) ∙ ap bytesOf patch-whole))
+                let zero-is : flip23Answer block out x y z ≡ 0 = answer
+                ∙ rw (given .numbers, none-10, none-11, none-18, rows-after, few, test-after ∙ a) in
+                flip-done block out written x y z zero-is (w
+                ∙ (ap (λ l. bytesOf (patchWith (patch .points) l)) (read-after ∙ sym rows-after) ∙ ap bytesOf patch-whole))
 
 -- ---- in front of the face's rows
 
 -- answers 1 to 8
-pub is-refused : (block out : List ℕ) (x y z : ℕ) (answer : Answer) (n : ℕ) → answer ≡ answerOf (firstRefusal (blockTests block out)) → answer ≡ Refused n
+pub is-refused : (block out : List ℕ) (x y z : ℕ) (answer : Answer) (n : ℕ)
+    → answer ≡ answerOf (firstRefusal (blockTests block out)) → answer ≡ Refused n
     → Said block out x y z answer out
 unfolding flip23Answer flip23Bytes
 is-refused block out x y z answer n e d =

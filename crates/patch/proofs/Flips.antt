@@ -2,7 +2,8 @@
 -- the one number that the face has not, and a's row, evenly rearranged, gives the same v and w.
 use Prim.Native.Nat.{ℕ}
 use mathlib.Core.Bool.{Bool, true, false, cond, not}
-use mathlib.Core.List.{List, [], _∷_, _++_, map, List·Memᴰ, List·Memᴰ·head, List·Memᴰ·tail, List·Memᴰ·not-nil, Memᴰ·map, Memᴰ·of-map, map-append}
+use mathlib.Core.List.{List, [], _∷_, _++_, map, List·Memᴰ, List·Memᴰ·head, List·Memᴰ·tail, List·Memᴰ·not-nil, Memᴰ·map, Memᴰ·of-map}
+use mathlib.Core.List.{map-append}
 use mathlib.Core.Logic.{_⊎_, inl, inr}
 use mathlib.Core.Path.{_≡_, refl, sym, ap, _∙_, subst}
 use native.Mathlib.Omega.{arith}
@@ -84,7 +85,8 @@ module _ (block other : List ℕ) (x y z : ℕ) (same : SameMesh block other) wh
   wrong-same = ap (λ (points : List Point). numbersWrong (length points) face) (same .points)
 
   -- the same apexes
-  apexes-to : T (different face) → (n : ℕ) → List·Memᴰ n (map (apexOver face) (left .removed)) → List·Memᴰ n (map (apexOver face) (right .removed))
+  apexes-to : T (different face) → (n : ℕ) → List·Memᴰ n (map (apexOver face) (left .removed))
+      → List·Memᴰ n (map (apexOver face) (right .removed))
   unfolding pairOf
   apexes-to apart n k =
       let (row, i, e) = Memᴰ·of-map (apexOver face) (left .removed) k in
@@ -206,7 +208,8 @@ module _ (block other : List ℕ) (x y z : ℕ) (same : SameMesh block other) wh
   -- 9 to 18
   abbrev before14 : ℕ → Pair → Tests
   before14 count pair =
-      (9, numbersWrong count list) ∷ (10, eqb (length (pair .removed)) 0) ∷ (11, eqb (length (pair .removed)) 1) ∷ (18, eqb (pair .a) (pair .b)) ∷ []
+      (9, numbersWrong count list) ∷ (10, eqb (length (pair .removed)) 0) ∷ (11, eqb (length (pair .removed)) 1)
+      ∷ (18, eqb (pair .a) (pair .b)) ∷ []
 
   before-same : T (different list) → before14 (length (fieldsOf block .points)) here ≡ before14 (length (fieldsOf other .points)) there
   before-same apart =

@@ -261,7 +261,8 @@ module _ (count : ℕ) (face : List ℕ) (rows : List Row) (all : AllOver count 
           )
 
   -- b's row is (u,v,w,b)
-  pub b-last : T (rearranged (record { p = upA .q; q = upA .r; r = upA .s; s = bOf face rows; region = the-two .rowB .region }) (the-two .rowB))
+  pub b-last : T (rearranged (record { p = upA .q; q = upA .r; r = upA .s; s = bOf face rows; region = the-two .rowB .region })
+      (the-two .rowB))
   unfolding evenly
   b-last =
       let (over-a, over-b, ways) = both-over in

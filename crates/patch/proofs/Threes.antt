@@ -1,7 +1,8 @@
 -- Three rows (a,b,u,v), (a,b,v,w), (a,b,w,u) and no other that holds a and b: the ring is u, v, w, and no answer from 9 to 13 is given.
 use Prim.Native.Nat.{ℕ, _<_, _≤_, min, max}
 use mathlib.Core.Bool.{Bool, true, false, not}
-use mathlib.Core.List.{List, [], _∷_, _++_, map, flatMap, List·Memᴰ, List·Memᴰ·head, List·Memᴰ·tail, List·Memᴰ·not-nil, Memᴰ·append-right, append-nil}
+use mathlib.Core.List.{List, [], _∷_, _++_, map, flatMap, List·Memᴰ, List·Memᴰ·head, List·Memᴰ·tail, List·Memᴰ·not-nil, Memᴰ·append-right}
+use mathlib.Core.List.{append-nil}
 use mathlib.Core.Option.{some}
 use mathlib.Core.Path.{_≡_, refl, sym, ap, _∙_}
 use native.Mathlib.Omega.{arith}
@@ -71,7 +72,8 @@ module _ (u v w : ℕ) (apart : ThreeApart u v w) where
   unfolding ringOf
   three-ring uv uw =
       let least = smallest-is (starts links) u (List·Memᴰ·head refl)
-      (λ k i. in-cases i (λ e. omega arith) λ i. in-cases i (λ e. omega arith) λ i. in-cases i (λ e. omega arith) λ i. absurd (List·Memᴰ·not-nil i)) in
+      (λ k i. in-cases i (λ e. omega arith) λ i. in-cases i (λ e. omega arith)
+      λ i. in-cases i (λ e. omega arith) λ i. absurd (List·Memᴰ·not-nil i)) in
       rw (← least, walks-walk links u 3 walk-u (omega arith))
 
 -- ---- three rows

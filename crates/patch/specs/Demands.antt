@@ -99,7 +99,10 @@ pub record Demand2 : Type 0 where
   pub page : (block out : List ℕ) (e f : ℕ) → removeAnswer block out e f ≡ 0
       → let before = worstOfPatch (fieldsOf block) in
       let after = worstOfPatch (fieldsOf (removeBytes block out e f)) in
-      removeGives block out e f ≡ record { removal = Done (pageRow (shown before) (shown after)); ring = ringWith (siteOf (fieldsOf block) e f .ring) }
+      removeGives block out e f ≡ record {
+        removal = Done (pageRow (shown before) (shown after));
+        ring = ringWith (siteOf (fieldsOf block) e f .ring);
+      }
 
 -- ---- Demand 3
 -- "Take a valid block, an output block of the right length and an edge whose tetrahedra form one closed ring of 3 to 10, with

@@ -1,12 +1,12 @@
 -- Law 5: whatever triangulation of the ring is carried out, the total D stays. The removed rows' D are those of their links,
 -- the links are the sides of the ring, and the new rows' total is the sum over the sides.
-use Prim.Native.Nat.{ℕ, zero, suc, _+_, _-_, _≤_, _<_}
+use Prim.Native.Nat.{ℕ, suc, _+_, _-_, _≤_, _<_}
 use mathlib.Core.Bool.{not}
-use mathlib.Core.List.{List, [], _∷_, _++_, map, List·Memᴰ, List·Memᴰ·head, List·Memᴰ·tail, Memᴰ·of-map, map-append}
+use mathlib.Core.List.{List, [], _∷_, map, List·Memᴰ, Memᴰ·of-map, map-append}
 use mathlib.Core.Path.{_≡_, refl, sym, ap, _∙_, subst}
 use native.Mathlib.Omega.{arith}
 use lib.Dec.{T}
-use lib.IntN.{ℤ, pos, negℤ, _+ℤ_, +ℤ-idl, +ℤ-idr, +ℤ-assoc, +ℤ-comm, +ℤ-invr}
+use lib.IntN.{ℤ, pos, negℤ, _+ℤ_, +ℤ-idr, +ℤ-comm, +ℤ-invr}
 use lib.ListN.{length, length-map}
 use Rattle.algebra.proofs.Normal.{var, con, _:+_, norm, same, _⊹_, ring-from}
 use Rattle.lists.specs.Lists.{those, numbersFrom}
@@ -122,7 +122,8 @@ module _ (site : Site) where
     removed-total =
         sum-through (rowD (site .points)) ofLink (link (site .a) (site .b)) (site .removed)
         (λ row k.
-        let both = those-e (holdsEdge (site .a) (site .b)) (sound .chain .table) (subst (λ rows. List·Memᴰ row rows) (sound .chain .going) k) in
+        let both = those-e (holdsEdge (site .a) (site .b)) (sound .chain .table)
+        (subst (λ rows. List·Memᴰ row rows) (sound .chain .going) k) in
         link-D row (λ e. omega (arith, sound .chain .ordered)) (both .1))
         ∙ ap (sumOver ofLink) (sym (sound .chain .linked))
         ∙ sum-same ofLink (site .links) sides sides-length sides-single sides-linked

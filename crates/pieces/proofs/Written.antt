@@ -1,6 +1,6 @@
 -- The rows of the chosen triangulation, written as the expansion goes: the piece's own two rows, then those of (i,k), then those of (k,j).
 use Prim.Native.Nat.{ℕ, _+_, _*_, _≤_, _<_}
-use mathlib.Core.List.{List, [], _∷_, _++_, append-assoc, flatMap}
+use mathlib.Core.List.{List, [], _++_, append-assoc, flatMap}
 use mathlib.Core.Option.{Option, none, some, Option·none-ne-some}
 use mathlib.Core.Path.{_≡_, refl, sym, ap, _∙_}
 use native.Mathlib.Omega.{arith}
@@ -57,7 +57,8 @@ module _ (site : Site) where
 
 -- ---- one step of the expansion
 
-module _ {site : Site} {apexes : List ℕ} {rim : Rim} {region i j : ℕ} (follows : Follows site apexes rim region i j) (long : i + 2 ≤ j) where
+module _ {site : Site} {apexes : List ℕ} {rim : Rim} {region i j : ℕ}
+    (follows : Follows site apexes rim region i j) (long : i + 2 ≤ j) where
   pub mark-rows : {k : ℕ} → k ≡ getD apexes (cellAt i j) 0 → k ≡ 0 → chosenRows site i j ≡ []
   unfolding codedApex
   mark-rows e z = none-chosen site i j (sym (follows .own-apexes i j (omega arith) long (omega arith)) ∙ ap codedApex (sym e ∙ z))
@@ -109,7 +110,8 @@ module _ {site : Site} {apexes : List ℕ} {rim : Rim} {region i j : ℕ} (follo
         let pair = rowsOver (twoOver rim i k j) region in
         let left = chosenRows site i k in
         let right = chosenRows site k j in
-        let all : pair ++ left ++ right ≡ chosenRows site i j = ap (λ rows. rows ++ left ++ right) two-are ∙ sym (chosen-rows site i j k own) in
+        let all : pair ++ left ++ right ≡ chosenRows site i j = ap (λ rows. rows ++ left ++ right) two-are
+        ∙ sym (chosen-rows site i j k own) in
         let count = length-append pair left in
         let first : withRows one (at + 2) left ≡ withRows table at (pair ++ left) =
         ap (λ t. withRows t (at + 2) left) a ∙ with-more table at (at + 2) pair left refl (omega (arith, b .1, c .1)) in (

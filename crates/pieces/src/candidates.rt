@@ -6,7 +6,8 @@ ghost use Rattle.mesh.specs.Keys.{mostKeys};
 ghost use Rattle.ring.specs.Ring.{Site, m, maxRing};
 ghost use Rattle.pieces.specs.Best.{cellAt};
 ghost use Rattle.pieces.specs.Candidates.{keep, bestFound};
-ghost use Rattle.pieces.specs.Filling.{Arrays, Given, Reaching, Rimmed, Smaller, bestIn, bestOf, besideOf, candidateOver, cells, choiceOf, readBest, readSide, twoOver, worstOver};
+ghost use Rattle.pieces.specs.Filling.{Arrays, Given, Reaching, Rimmed, Smaller, bestIn, bestOf, besideOf, candidateOver, cells};
+ghost use Rattle.pieces.specs.Filling.{choiceOf, readBest, readSide, twoOver, worstOver};
 use crate::Best;
 use crate::Bipyramid;
 use crate::CELLS;
@@ -35,7 +36,8 @@ pub fn best_at<'a>(
     at: usize,
 ) -> Best
     requires { ⌜ (length (now kinds) ≡ cells) × (length (now nums) ≡ cells) × (length (now dens) ≡ cells) × (at < cells) ⌝ }
-    ensures { λ r. ⌜ bestOf r ≡ readBest (getD (now (kinds .entry)) at 0) (getD (now (nums .entry)) at 0) (getD (now (dens .entry)) at 0) ⌝ }
+    ensures { λ r. ⌜ bestOf r
+        ≡ readBest (getD (now (kinds .entry)) at 0) (getD (now (nums .entry)) at 0) (getD (now (dens .entry)) at 0) ⌝ }
 {
     let kind = kinds[at];
     match kind {

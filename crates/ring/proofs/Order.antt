@@ -1,11 +1,10 @@
 -- The ring and answers 10 to 13 do not depend on the order of the rows, on their even arrangement, or on the order of the ends.
 -- Idea: two tables of the same tetrahedra have the same links, and where a point starts at most one link their order plays no part.
-use Prim.Native.Nat.{ℕ, zero, suc, _≤_, _<_, min, max}
+use Prim.Native.Nat.{ℕ, zero, suc, min, max}
 use mathlib.Core.Bool.{Bool, true, false, not, _&&_, _||_}
 use mathlib.Core.List.{List, [], _∷_, List·Memᴰ, Memᴰ·map, Memᴰ·of-map}
 use mathlib.Core.Option.{Option, none, some, Option·getD}
 use mathlib.Core.Path.{_≡_, refl, sym, ap, _∙_, subst}
-use native.Mathlib.Decide.{decLt}
 use native.Mathlib.Omega.{arith}
 use lib.Dec.{T, eqb, ltb, eqb→eq}
 use lib.ListN.{length, length-map}
@@ -54,7 +53,8 @@ numbers-swap count e f = rw swapped (go (ltb e count) (ltb f count))
     swapped = same-test (eqb f e) (eqb e f) (λ h. eq-test e f (sym (eqb→eq f e h))) (λ h. eq-test f e (sym (eqb→eq e f h)))
 
     go : (x y : Bool)
-        → not ((x && (y && true)) && (not (eqb e f || false) && (not false && true))) ≡ not ((y && (x && true)) && (not (eqb e f || false) && (not false && true)))
+        → not ((x && (y && true)) && (not (eqb e f || false) && (not false && true)))
+        ≡ not ((y && (x && true)) && (not (eqb e f || false) && (not false && true)))
     go true true = refl
     go true false = refl
     go false true = refl
@@ -99,7 +99,8 @@ module _ (ls ks : List Link) (once : T (different (starts ls))) (once' : T (diff
 
   pub ring-same : ringOf ls ≡ ringOf ks
   unfolding ringOf
-  ring-same = ap (λ o. Option·getD o []) (ap (circle ls) (smallest-same (starts ls) (starts ks) to-start from-start) ∙ circle-same (smallest (starts ks)))
+  ring-same = ap (λ o. Option·getD o []) (ap (circle ls) (smallest-same (starts ls) (starts ks) to-start from-start)
+      ∙ circle-same (smallest (starts ks)))
 
   -- a test of each start
   each-same : (p q : ℕ → Bool) → ((n : ℕ) → p n ≡ q n) → every p (starts ls) ≡ every q (starts ks)
@@ -173,7 +174,12 @@ module _ (count : ℕ) (patch other : Patch) (e f : ℕ) (apart : e ≡ f → �
       let site = siteOf patch e f in
       let site' = siteOf other e f in
       let l : Row → Link = link (min e f) (max e f) in
-      omega (arith, length-same (site .links) (site' .links) once once' to from, length-map (site .removed) l, length-map (site' .removed) l)
+      omega (
+        arith,
+        length-same (site .links) (site' .links) once once' to from,
+        length-map (site .removed) l,
+        length-map (site' .removed) l,
+      )
 
   same-open : linkOpen (siteOf patch e f) ≡ linkOpen (siteOf other e f)
   unfolding linkOpen

@@ -1,11 +1,10 @@
 // The ring round an edge.
 ghost use mathlib.Core.Path.{_≡_};
 ghost use mathlib.Core.List.{[], _∷_, _++_};
-ghost use Prim.Native.Nat.{ℕ, _+_, _*_, _<_, _≤_};
-ghost use lib.Dec.{T};
+ghost use Prim.Native.Nat.{_+_, _<_, _≤_};
 ghost use lib.ListN.{length, take};
 ghost use Rattle.lists.specs.Lists.{every, has};
-ghost use Rattle.mesh.specs.Mesh.{rowSize, rowsIn, numbersFit, keepsMeshRule, holdsEdge};
+ghost use Rattle.mesh.specs.Mesh.{rowsIn};
 ghost use Rattle.block.specs.Layout.{maxRows};
 ghost use Rattle.ring.specs.Ring.{link, circle, starts, smallest, maxRing, ringWith};
 ghost use Rattle.ring.specs.Found.{refusedWith, foundOf, edgeIn, linksOf, ends, following, linksIn, walked, LinkedRow, Table};

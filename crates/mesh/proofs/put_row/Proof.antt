@@ -1,5 +1,4 @@
 -- `put_row` stores the five bytes of a row next to one another.
-use Prim.Native.Nat.{_*_}
 use native.Mathlib.Omega.{arith}
 use lib.ListN.{length-set}
 use denote.Ref.{now}

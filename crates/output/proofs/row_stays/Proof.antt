@@ -37,7 +37,8 @@ row-holds-requires-2 c κs = search needs
 returns-2 : tie.Need-returns-2
 returns-2 c =
     let a = c .before .before .before .before .args in
-    second-missing (a .x) (a .y) (a .z) (a .row) _ _ (c .before .before .before .row-holds .ensures) (not-false _ (c .before .before .if1 .left))
+    second-missing (a .x) (a .y) (a .z) (a .row) _ _ (c .before .before .before .row-holds .ensures)
+    (not-false _ (c .before .before .if1 .left))
     (c .before .row-holds2 .ensures) (not-true _ (c .if2 .taken))
 
 row-holds-requires-3 : tie.Need-row-holds-requires-3
@@ -46,7 +47,8 @@ row-holds-requires-3 c κs = search needs
 returns-3 : tie.Need-returns-3
 returns-3 c =
     let a = c .before .before .before .before .before .args in
-    third-decides (a .x) (a .y) (a .z) (a .row) _ _ _ (c .before .before .before .before .row-holds .ensures) (not-false _ (c .before .before .before .if1 .left))
+    third-decides (a .x) (a .y) (a .z) (a .row) _ _ _ (c .before .before .before .before .row-holds .ensures)
+    (not-false _ (c .before .before .before .if1 .left))
     (c .before .before .row-holds2 .ensures) (not-false _ (c .before .if2 .left)) (c .row-holds3 .ensures)
 
 pub row-stays-spec : {M : Type 1} → statement M

@@ -18,7 +18,8 @@ use Rattle.patch.proofs.flipping.put_three.Tie as tie
 abbrev rowOf : Sharing → ℕ → ℕ → Row
 rowOf found r s = record { p = found .a; q = found .b; r = r; s = s; region = found .region }
 
-module _ (table one two three : List ℕ) (at : ℕ) (found : Sharing) (u v w : ℕ) (l : Link) (room : rowSize * (at + 3) ≤ length table) (follow : (v, w) ≡ l) where
+module _ (table one two three : List ℕ) (at : ℕ) (found : Sharing) (u v w : ℕ) (l : Link) (room : rowSize * (at + 3) ≤ length table)
+    (follow : (v, w) ≡ l) where
   all-three : one ≡ withRows table at (rowOf found u v ∷ []) → two ≡ withRows one (at + 1) (rowOf found v w ∷ [])
       → three ≡ withRows two (at + 2) (rowOf found w u ∷ []) → three ≡ withRows table at (threeOf found u (l .0) (l .1))
   all-three e f g =
@@ -26,7 +27,8 @@ module _ (table one two three : List ℕ) (at : ℕ) (found : Sharing) (u v w : 
       let s = rowOf found v w in
       let t = rowOf found w u in
       g
-      ∙ ap (λ l. withRows l (at + 2) (t ∷ [])) (f ∙ ap (λ l. withRows l (at + 1) (s ∷ [])) e ∙ with-more table at (at + 1) (r ∷ []) (s ∷ []) refl (omega arith))
+      ∙ ap (λ l. withRows l (at + 2) (t ∷ [])) (f ∙ ap (λ l. withRows l (at + 1) (s ∷ [])) e
+      ∙ with-more table at (at + 1) (r ∷ []) (s ∷ []) refl (omega arith))
       ∙ with-more table at (at + 2) (r ∷ s ∷ []) (t ∷ []) refl (omega arith)
       ∙ ap (λ (l : Link). withRows table at (threeOf found u (l .0) (l .1))) follow
 
@@ -58,7 +60,8 @@ returns c =
     let first = second .before .before .before .before in
     let linked = first .before .before in
     let start = linked .before .before .before in
-    all-three (start .args .rows .now) _ _ _ (start .args .at) (start .args .found) (start .args .u) (linked .link-of .result .v) (linked .link-of .result .w) _ (start .pre .0) (linked .link-of .ensures)
+    all-three (start .args .rows .now) _ _ _ (start .args .at) (start .args .found) (start .args .u) (linked .link-of .result .v)
+    (linked .link-of .result .w) _ (start .pre .0) (linked .link-of .ensures)
     (first .put-row .ensures) (second .put-row2 .ensures) (third .put-row3 .ensures)
 
 pub put-three-spec : {M : Type 1} → statement M

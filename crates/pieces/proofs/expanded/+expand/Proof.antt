@@ -157,7 +157,10 @@ expand-expand-requires t c κs =
     let low = k .ensures .2 (e .if2 .left) in
     let high = k .ensures .1 in (
       omega (arith, s .pre .0, low, high),
-      ((pre .0, left-between (omega (arith, high)) (pre .1), pre .2, low, omega (arith, high, pre .4)), omega (arith, s .pre .1 .1, two .write-two .kept .0, low, high)),
+      (
+        (pre .0, left-between (omega (arith, high)) (pre .1), pre .2, low, omega (arith, high, pre .4)),
+        omega (arith, s .pre .1 .1, two .write-two .kept .0, low, high),
+      ),
     )
 
 expand-expand-requires-2 : (t : ℕ) → expand-lts.Need-expand-requires-2 (
@@ -181,7 +184,10 @@ expand-expand-requires-2 t c κs =
     let low = k .ensures .2 (e .if2 .left) in
     let high = k .ensures .1 in (
       omega (arith, s .pre .0, low, high),
-      ((pre .0, right-between (omega (arith, low)) (pre .1), omega (arith, low), high, pre .4), omega (arith, s .pre .1 .1, one .expand .kept .0, two .write-two .kept .0, one .expand .ensures .0, low, high)),
+      (
+        (pre .0, right-between (omega (arith, low)) (pre .1), omega (arith, low), high, pre .4),
+        omega (arith, s .pre .1 .1, one .expand .kept .0, two .write-two .kept .0, one .expand .ensures .0, low, high),
+      ),
     )
 
 expand-same-length : (t : ℕ) → expand-lts.Need-same-length (

@@ -74,7 +74,8 @@ returns c =
     let e : l .loop .i ≡ a .n = omega arith in
     c .or-zero .ensures
     ∙ ap orZero (rw e at (l .loop .inv .1))
-    ∙ or-zero-of (worst (map (rowQuality (pointsIn (a .coordinates .now) (a .count))) (those (holdsEdge (a .a) (a .b)) (rowsIn (a .table .now) (a .n)))))
+    ∙ or-zero-of (worst (map (rowQuality (pointsIn (a .coordinates .now) (a .count)))
+    (those (holdsEdge (a .a) (a .b)) (rowsIn (a .table .now) (a .n)))))
 
 pub worst-round-spec : {M : Type 1} → statement M
 worst-round-spec =
