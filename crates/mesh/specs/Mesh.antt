@@ -57,6 +57,10 @@ holds row n = has (numbers row) n
 abbrev pub holdsEdge : ℕ → ℕ → Row → Bool
 holdsEdge a b row = holds row a && holds row b
 
+-- the row holds all numbers of a face
+abbrev pub holdsFace : List ℕ → Row → Bool
+holdsFace face row = every (holds row) face
+
 -- A directed face.
 abbrev pub Face : Type 0
 Face = ℕ × ℕ × ℕ

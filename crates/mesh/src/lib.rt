@@ -6,8 +6,8 @@ ghost use Prim.Native.Nat.{_+_, _*_, _<_, _≤_, min};
 ghost use lib.Dec.{ltb};
 ghost use lib.ListN.{length, take, drop};
 ghost use Rattle.lists.specs.Lists.{every, any, has, different};
-ghost use Rattle.mesh.specs.Mesh.{rowSize, rowIn, rowsIn, withRows, numbers, holds, holdsEdge, uses, numbersFit, facesApart};
-ghost use Rattle.mesh.specs.Mesh.{keepsMeshRule};
+ghost use Rattle.mesh.specs.Mesh.{rowSize, rowIn, rowsIn, withRows, numbers, holds, holdsEdge, holdsFace, uses};
+ghost use Rattle.mesh.specs.Mesh.{numbersFit, facesApart, keepsMeshRule};
 ghost use Rattle.mesh.specs.Keys.{mostRows, rowFaces, mostKeys, threeAsOne, faceKey, rowKeys, tableKeys, oneOf};
 
 // The bytes of a row, its faces, and the faces of the longest table: 60 rows of a block and one more while it is changed.
@@ -78,6 +78,19 @@ pub fn holds_edge(row: Row, a: u8, b: u8) -> bool
         return row_holds(row, b);
     }
     false
+}
+
+// The row holds the three numbers of a face.
+pub fn holds_face(row: Row, x: u8, y: u8, z: u8) -> bool
+    ensures { λ r. ⌜ r ≡ holdsFace (x ∷ y ∷ z ∷ []) row ⌝ }
+{
+    if !row_holds(row, x) {
+        return false;
+    }
+    if !row_holds(row, y) {
+        return false;
+    }
+    row_holds(row, z)
 }
 
 // ---- proper numbers

@@ -8,33 +8,32 @@ use native.Mathlib.Omega.{arith}
 use lib.ListN.{length, drop, length-append}
 use Rattle.lists.specs.Lists.{every, those}
 use Rattle.lists.proofs.Lists.{those-yes, those-no, those-same}
-use Rattle.lists.proofs.Tests.{and-true}
 use Rattle.mesh.specs.declared.Row.{Row}
-use Rattle.mesh.specs.Mesh.{rowSize, rowBytes, rowIn, rowsIn, withRows, holds, holdsEdge}
+use Rattle.mesh.specs.Mesh.{rowSize, rowBytes, rowIn, rowsIn, withRows, holds, holdsEdge, holdsFace}
 use Rattle.mesh.proofs.Tables.{rows-more}
 use Rattle.output.specs.Output.{stays, staying}
 use Rattle.output.proofs.Tables.{front-more}
 
-twice : (a b : Bool) → a && (b && b) ≡ a && b
+twice : (a b : Bool) → a && (b && (b && true)) ≡ a && b
 twice true true = refl
 twice true false = refl
 twice false b = refl
 
 -- an edge
 pub edge-stays : (x y : ℕ) (row : Row) → stays x y y row ≡ not (holdsEdge x y row)
-unfolding stays
+unfolding stays every
 edge-stays x y row = ap not (twice (holds row x) (holds row y))
 
 pub edge-staying : (x y : ℕ) (rows : List Row) → staying x y y rows ≡ those (λ row. not (holdsEdge x y row)) rows
 edge-staying x y rows = those-same (stays x y y) (λ row. not (holdsEdge x y row)) (edge-stays x y) rows
 
 -- a face
-pub face-stays : (x y z : ℕ) (row : Row) → stays x y z row ≡ not (every (holds row) (x ∷ y ∷ z ∷ []))
-unfolding stays every
-face-stays x y z row = ap (λ last. not (holds row x && (holds row y && last))) (sym (and-true (holds row z)))
+pub face-stays : (x y z : ℕ) (row : Row) → stays x y z row ≡ not (holdsFace (x ∷ y ∷ z ∷ []) row)
+unfolding stays
+face-stays x y z row = refl
 
-pub face-staying : (x y z : ℕ) (rows : List Row) → staying x y z rows ≡ those (λ row. not (every (holds row) (x ∷ y ∷ z ∷ []))) rows
-face-staying x y z rows = those-same (stays x y z) (λ row. not (every (holds row) (x ∷ y ∷ z ∷ []))) (face-stays x y z) rows
+pub face-staying : (x y z : ℕ) (rows : List Row) → staying x y z rows ≡ those (λ row. not (holdsFace (x ∷ y ∷ z ∷ []) row)) rows
+face-staying x y z rows = those-same (stays x y z) (λ row. not (holdsFace (x ∷ y ∷ z ∷ []) row)) (face-stays x y z) rows
 
 -- one row more of a table
 

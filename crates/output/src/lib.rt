@@ -16,13 +16,7 @@ use mesh::Row;
 fn row_stays(row: Row, x: u8, y: u8, z: u8) -> bool
     ensures { λ r. ⌜ r ≡ stays x y z row ⌝ }
 {
-    if !mesh::row_holds(row, x) {
-        return true;
-    }
-    if !mesh::row_holds(row, y) {
-        return true;
-    }
-    !mesh::row_holds(row, z)
+    !mesh::holds_face(row, x, y, z)
 }
 
 // The rows that stay, in order, are written to the front of the scratch table; their number is returned.

@@ -11,14 +11,14 @@ use Rattle.block.specs.Answers.{Tests, firstRefusal}
 use Rattle.block.proofs.Refusals.{goes-on, refuses}
 use Rattle.block.proofs.Right.{right-block}
 use Rattle.block.proofs.Written.{rows-counted}
-use Rattle.mesh.specs.Mesh.{holdsEdge}
+use Rattle.mesh.specs.Mesh.{holdsEdge, holdsFace}
 use Rattle.ring.specs.Ring.{Site, siteOf, m, minRing, lengthWrong}
 use Rattle.pieces.specs.Triangulation.{newRows, tableAfter, rowsAfter}
 use Rattle.pieces.specs.Admissible.{admissible}
 use Rattle.pieces.specs.Best.{chosen}
 use Rattle.pieces.proofs.Rings.{after-length, after-rows}
 use Rattle.patch.specs.Removing.{noRoom, noWay, noneBetter, patchAfter, totalDiffers, removalTests, removeAnswer, removeBytes, Sound}
-use Rattle.patch.specs.Flipping.{flip32Answer, flip32Bytes, holdsFace, pairOf, threeRows, patchAfter23, flip23Answer, flip23Bytes}
+use Rattle.patch.specs.Flipping.{flip32Answer, flip32Bytes, pairOf, threeRows, patchAfter23, flip23Answer, flip23Bytes}
 use Rattle.patch.specs.Demands.{Accepted, Room}
 use Rattle.patch.proofs.Answering.{Flips23, removes, remove-left, flips-32, flips-23}
 use Rattle.patch.proofs.Facing.{Facing, face-apart, facing, flipped-total}

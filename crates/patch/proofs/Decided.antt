@@ -28,6 +28,7 @@ use Rattle.pieces.specs.declared.Best.the-variants.{Mark, Worst}
 use Rattle.pieces.specs.Triangulation.{tableAfter, rowsAfter}
 use Rattle.pieces.specs.Best.{bestWorst, chosen, sameBest}
 use Rattle.pieces.specs.Filling.{siteIn, bestOf}
+use Rattle.pieces.proofs.Optimal.{none-best}
 use Rattle.output.specs.Output.{tableBytes}
 use Rattle.output.proofs.Tables.{table-size, table-read}
 use Rattle.patch.specs.declared.carrying.Carried.{Carried}
@@ -39,11 +40,6 @@ use Rattle.patch.proofs.Deciding.{mark-no-way, best-some-way, best-deci
 use Rattle.patch.proofs.Handed.{Number, number-handed, handed-done}
 
 -- ---- what the table of pieces keeps for the whole ring
-
-mark-kept : (o : Option Quality) → T (sameBest none o) → o ≡ none
-unfolding sameBest
-mark-kept none h = refl
-mark-kept (some q) h = absurd h
 
 best-kept : (q : Quality) (o : Option Quality) → T (sameBest (some q) o) → (r : Quality) × (o ≡ some r) × T (asGood q r)
 unfolding sameBest
@@ -111,7 +107,7 @@ module _ (coordinates : List ℕ) (count : ℕ) (table : List ℕ) (n a b : ℕ)
     pub marked : way .best ≡ Mark → noWay its ≡ true
     marked e =
         mark-no-way its (given .sound) three
-        (mark-kept (bestWorst its 1 (m its)) (subst (λ best. T (sameBest (bestOf best) (bestWorst its 1 (m its)))) e (carries .best)))
+        (none-best (bestWorst its 1 (m its)) (subst (λ best. T (sameBest (bestOf best) (bestWorst its 1 (m its)))) e (carries .best)))
 
     module _ (q : Quality) (is : way .best ≡ Worst q) where
       kept : (r : Quality) × (bestWorst its 1 (m its) ≡ some r) × T (asGood q r)

@@ -16,7 +16,7 @@ use Rattle.lists.proofs.Lists.{every-same}
 use Rattle.lists.proofs.Places.{in-cases}
 use Rattle.measure.specs.declared.Point.{Point}
 use Rattle.mesh.specs.declared.Row.{Row}
-use Rattle.mesh.specs.Mesh.{numbers, holds, keepsMeshRule}
+use Rattle.mesh.specs.Mesh.{numbers, holds, holdsFace, keepsMeshRule}
 use Rattle.mesh.specs.Tetrahedra.{rearranged, SameTetrahedra}
 use Rattle.mesh.proofs.Alike.{same-keeps, same-append}
 use Rattle.mesh.proofs.Evenly.{even-holds, even-proper}
@@ -30,7 +30,7 @@ use Rattle.ring.proofs.Linking.{link-is}
 use Rattle.ring.proofs.Rounding.{smallest-same}
 use Rattle.ring.proofs.Order.{row-across}
 use Rattle.pieces.proofs.Across.{those-across, length-across}
-use Rattle.patch.specs.Flipping.{holdsFace, apexOver, Pair, pairOf, threeRows, patchAfter23, flip23Tests, flip23Answer}
+use Rattle.patch.specs.Flipping.{apexOver, Pair, pairOf, threeRows, patchAfter23, flip23Tests, flip23Answer}
 use Rattle.patch.specs.Demands.{SameMesh, AnyRowOrder23}
 use Rattle.patch.proofs.Answering.{same-behind, block-opened, flips-23}
 use Rattle.patch.proofs.Sites.{opens-rule}

@@ -12,13 +12,13 @@ use Rattle.lists.proofs.Lists.{every-at, every-i}
 use Rattle.lists.proofs.Numbers.{has-i, has-e, different-head, different-tail, different-i}
 use Rattle.lists.proofs.Places.{in-cases}
 use Rattle.mesh.specs.declared.Row.{Row}
-use Rattle.mesh.specs.Mesh.{numbers, holds, noRow}
+use Rattle.mesh.specs.Mesh.{numbers, holds, holdsFace, noRow}
 use Rattle.block.specs.Layout.{Patch, fieldsOf}
 use Rattle.ring.specs.Ring.{Site, siteOf, smallest, numbersWrong, edgeTests}
 use Rattle.ring.proofs.Order.{site-swap, numbers-swap}
 use Rattle.ring.proofs.Rounding.{smallest-in, smallest-le, smallest-is}
 use Rattle.patch.specs.Removing.{removeAnswer, removeBytes, removeGives}
-use Rattle.patch.specs.Flipping.{flip32Answer, flip32Bytes, holdsFace, apexOver, Pair, pairOf, threeRows, patchAfter23, flip23Tests}
+use Rattle.patch.specs.Flipping.{flip32Answer, flip32Bytes, apexOver, Pair, pairOf, threeRows, patchAfter23, flip23Tests}
 use Rattle.patch.specs.Flipping.{flip23Answer, flip23Bytes}
 use Rattle.patch.specs.Demands.{EitherOrder}
 use Rattle.patch.proofs.First.{gives-done, gives-refused}

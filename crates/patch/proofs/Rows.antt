@@ -31,7 +31,8 @@ use Rattle.pieces.specs.Admissible.{admissible, pieceAdmissible}
 use Rattle.pieces.specs.Best.{worstOfWay, ringWays, chosen}
 use Rattle.pieces.proofs.Admissible.{ring-admissible}
 use Rattle.pieces.proofs.Ways.{ways-span}
-use Rattle.pieces.proofs.Rings.{rows-fractions, way-listed, listed-way}
+use Rattle.pieces.proofs.Worsts.{rows-fractions}
+use Rattle.pieces.proofs.Rings.{way-listed, listed-way}
 use Rattle.pieces.proofs.Across.{those-across, length-across}
 use Rattle.pieces.proofs.Kindred.{kin, piece-same, worst-same, rows-same}
 use Rattle.patch.specs.Removing.{blockTests, worstNow, noRoom, noWay, noneBetter, patchAfter, totalDiffers, removalTests}

@@ -14,7 +14,7 @@ use Rattle.lists.proofs.Lists.{every-at}
 use Rattle.lists.proofs.Counts.{ind, count-cons}
 use Rattle.lists.proofs.Numbers.{different-head, different-tail}
 use Rattle.mesh.specs.declared.Row.{Row}
-use Rattle.mesh.specs.Mesh.{Face, holds, faces, uses, usesEitherWay, keepsMeshRule}
+use Rattle.mesh.specs.Mesh.{Face, holds, holdsFace, faces, uses, usesEitherWay, keepsMeshRule}
 use Rattle.mesh.specs.Tetrahedra.{arrangedFrom}
 use Rattle.mesh.proofs.Faces.{as-is, uses-i}
 use Rattle.mesh.proofs.Rule.{two-rows}
@@ -22,7 +22,7 @@ use Rattle.mesh.proofs.Evenly.{even-uses, even-holds, holds-cases}
 use Rattle.mesh.proofs.Places.{arranged-from}
 use Rattle.block.specs.Layout.{Patch}
 use Rattle.ring.specs.Ring.{smallest, numbersWrong}
-use Rattle.patch.specs.Flipping.{holdsFace, apexOver, pairOf}
+use Rattle.patch.specs.Flipping.{apexOver, pairOf}
 
 module _ (x y z : ℕ) (x-y : x ≡ y → ⊥) (x-z : x ≡ z → ⊥) (y-z : y ≡ z → ⊥) (row : Row) where
   abbrev face : List ℕ

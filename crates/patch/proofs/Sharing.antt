@@ -16,7 +16,7 @@ use Rattle.lists.proofs.Tests.{and-l, and-r, and-i, either, no-is, eq-test}
 use Rattle.lists.proofs.Lists.{every-at, any-i, any-e, those-e, those-append, those-split, first-front, first-behind, first-found}
 use Rattle.lists.proofs.Numbers.{has-i, has-e, no-more, max-more, min-more}
 use Rattle.mesh.specs.declared.Row.{Row}
-use Rattle.mesh.specs.Mesh.{rowIn, rowsIn, numbers, holds, numbersFit, noRow, keepsMeshRule}
+use Rattle.mesh.specs.Mesh.{rowIn, rowsIn, numbers, holds, holdsFace, numbersFit, noRow, keepsMeshRule}
 use Rattle.mesh.proofs.Tables.{rows-more}
 use Rattle.mesh.proofs.Rule.{keeps-fits}
 use Rattle.mesh.proofs.Places.{arranged-from}
@@ -25,7 +25,7 @@ use Rattle.ring.specs.Found.{LinkedRow}
 use Rattle.ring.proofs.Rounding.{smallest-in, smallest-le}
 use Rattle.pieces.specs.Triangulation.{regionOf}
 use Rattle.patch.specs.declared.flipping.Sharing.{Sharing}
-use Rattle.patch.specs.Flipping.{holdsFace, apexOver, Pair, pairOf, threeRows}
+use Rattle.patch.specs.Flipping.{apexOver, Pair, pairOf, threeRows}
 use Rattle.patch.specs.Pairing.{sharing, sharingIn, withRow, threeOf}
 
 -- ---- one more at the end

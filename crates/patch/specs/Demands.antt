@@ -11,7 +11,7 @@ use Rattle.lists.specs.Lists.{any, has, those}
 use Rattle.measure.specs.Measure.{worse}
 use Rattle.measure.specs.Page.{shown, pageRow}
 use Rattle.mesh.specs.declared.Row.{Row}
-use Rattle.mesh.specs.Mesh.{MeshRule, numbers, rowQuality, totalD, holdsEdge}
+use Rattle.mesh.specs.Mesh.{MeshRule, numbers, rowQuality, totalD, holdsEdge, holdsFace}
 use Rattle.mesh.specs.Tetrahedra.{SameTetrahedra}
 use Rattle.block.specs.Layout.{Patch, blockBytes, maxRows, fieldsOf, bytesOf}
 use Rattle.block.specs.Within.{Kept}
@@ -25,7 +25,7 @@ use Rattle.patch.specs.declared.Summarised.the-variants.{Summary as Summ
 use Rattle.patch.specs.declared.Removal.the-variants.{Done}
 use Rattle.patch.specs.Summing.{summaryGives, summaryNumber}
 use Rattle.patch.specs.Removing.{worstNow, removeAnswer, removeBytes, removeGives, removalNumber, Sound}
-use Rattle.patch.specs.Flipping.{flip32Answer, flip32Bytes, holdsFace, pairOf, threeRows, flip23Answer, flip23Bytes}
+use Rattle.patch.specs.Flipping.{flip32Answer, flip32Bytes, pairOf, threeRows, flip23Answer, flip23Bytes}
 
 -- ---- Demand 1
 -- "Every call ends with an answer, for every block and every edge or face number, and never relies on the caller having

@@ -10,7 +10,7 @@ ghost use Rattle.block.specs.Layout.{maxRows};
 ghost use Rattle.block.specs.Answers.{answerOf};
 ghost use Rattle.ring.specs.Ring.{link, smallest, numbersWrong};
 ghost use Rattle.ring.specs.Found.{LinkedRow};
-ghost use Rattle.patch.specs.Flipping.{holdsFace, apexOver, flip23Answer, flip23Bytes};
+ghost use Rattle.patch.specs.Flipping.{apexOver, flip23Answer, flip23Bytes};
 ghost use Rattle.patch.specs.Pairing.{sharingIn, withRow, threeOf, Given};
 use crate::edges::blocks_answer;
 use block::Answer;
@@ -61,19 +61,6 @@ fn least(x: u8, y: u8, z: u8) -> u8
     ensures { λ r. ⌜ r ≡ smallest (x ∷ y ∷ z ∷ []) ⌝ }
 {
     lesser(y, lesser(z, x))
-}
-
-// The row holds the three numbers of the face.
-fn holds_face(row: Row, x: u8, y: u8, z: u8) -> bool
-    ensures { λ r. ⌜ r ≡ holdsFace (x ∷ y ∷ z ∷ []) row ⌝ }
-{
-    if !mesh::row_holds(row, x) {
-        return false;
-    }
-    if !mesh::row_holds(row, y) {
-        return false;
-    }
-    mesh::row_holds(row, z)
 }
 
 // The face has not the number n.
@@ -174,7 +161,7 @@ fn share(table: &[u8], n: usize, x: u8, y: u8, z: u8) -> Sharing
     };
     for i in 0..n {
         let row = mesh::row_in(table, i);
-        if holds_face(row, x, y, z) {
+        if mesh::holds_face(row, x, y, z) {
             found = with_row(found, row, apex_over(row, x, y, z));
         }
     }

@@ -25,7 +25,7 @@ use Rattle.pieces.proofs.Apex.{Reaches, apex-between, apex-reaches, ape
 use Rattle.pieces.proofs.Cells.{kept-is, apex-is, read-is}
 
 -- nothing is as good as a mark but a mark
-none-best : (o : Option Quality) → T (sameBest none o) → o ≡ none
+pub none-best : (o : Option Quality) → T (sameBest none o) → o ≡ none
 unfolding sameBest
 none-best none t = refl
 none-best (some q) t = absurd t

@@ -6,12 +6,11 @@ use mathlib.Core.Path.{_≡_, sym, _∙_}
 use borrow.Author.Tests.{not-true, not-false}
 use Rattle.lists.specs.Lists.{every}
 use Rattle.lists.proofs.Tests.{and-true}
 use Rattle.mesh.specs.declared.Row.{Row}
-use Rattle.mesh.specs.Mesh.{holds}
-use Rattle.patch.specs.Flipping.{holdsFace}
+use Rattle.mesh.specs.Mesh.{holds, holdsFace}
 use borrow.Author.Needs.{needs}
-use Rattle.patch.proofs.flipping.holds_face.Statement.{statement}
-use Rattle.patch.proofs.flipping.holds_face.Tie as tie
+use Rattle.mesh.proofs.holds_face.Statement.{statement}
+use Rattle.mesh.proofs.holds_face.Tie as tie
 
 module _ (x y z : ℕ) (row : Row) where
   first-missing : (r : Bool) → r ≡ holds row x → r ≡ false → false ≡ holdsFace (x ∷ y ∷ z ∷ []) row
