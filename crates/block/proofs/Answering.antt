@@ -31,7 +31,8 @@ module _ (block : List ℕ) (a3 : version block ≡ theVersion) where
 
     module _ (b4 : rowCount block ≤ maxRows) where
       passed-4 : firstRefusal (bodyTests block) ≡ firstRefusal (
-          (5, zeroMissing block) ∷ (6, coordinateOver (fieldsOf block)) ∷ (7, numberWrong (fieldsOf block)) ∷ (8, faceTwice (fieldsOf block)) ∷ []
+          (5, zeroMissing block) ∷ (6, coordinateOver (fieldsOf block)) ∷ (7, numberWrong (fieldsOf block))
+          ∷ (8, faceTwice (fieldsOf block)) ∷ []
           )
       unfolding bodyTests firstRefusal
       passed-4 = rw (eq-eqb (version block) theVersion a3, le-ltb maxPoints (pointCount block) a4, le-ltb maxRows (rowCount block) b4)

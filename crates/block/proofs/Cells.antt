@@ -34,7 +34,8 @@ module _ {R : Type 0} {k : ℕ} {at : List ℕ → ℕ → R} {bytes : R → Lis
       let table = flatMap bytes rs ++ rest in
       let all = bytes r ++ table in
       let e : bytes r ++ flatMap bytes rs ++ rest ≡ all = append-assoc (bytes r) (flatMap bytes rs) rest in
-      let step : (i : ℕ) → at all (suc i) ≡ at table i = λ i. cells .next all i ∙ ap (λ t. at t i) (drop-at (bytes r) table k (cells .size r)) in
+      let step : (i : ℕ) → at all (suc i) ≡ at table i = λ i. cells .next all i
+      ∙ ap (λ t. at t i) (drop-at (bytes r) table k (cells .size r)) in
       let head = cells .front r table in
       let tail = map-next (at all) (at table) step 0 (length rs) ∙ read-back rs rest in
       rw e (cc)

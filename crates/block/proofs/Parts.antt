@@ -22,13 +22,15 @@ part-cut i j k block h l =
     rw (e, take-add (j - i) (k - j) (drop i block), drop-drop (j - i) i block, p)
 
 -- what stands in the middle of a list
-pub part-at : (front middle rest : List ℕ) (i j : ℕ) → length front ≡ i → i + length middle ≡ j → part i j (front ++ middle ++ rest) ≡ middle
+pub part-at : (front middle rest : List ℕ) (i j : ℕ) → length front ≡ i → i + length middle ≡ j
+    → part i j (front ++ middle ++ rest) ≡ middle
 part-at front middle rest i j h l =
     let e : j - i ≡ length middle = omega arith in
     rw (append-assoc front middle rest, drop-at front (middle ++ rest) i h, e, take-append-seam middle rest)
 
 -- a part that is n bytes, filled with zeros, is zero behind them
-pub zero-behind : (i k n : ℕ) (block bytes : List ℕ) → k ≤ length block → i + n ≤ k → length bytes ≡ n → part i k block ≡ filled (k - i) bytes
+pub zero-behind : (i k n : ℕ) (block bytes : List ℕ) → k ≤ length block → i + n ≤ k → length bytes ≡ n
+    → part i k block ≡ filled (k - i) bytes
     → part (i + n) k block ≡ replicate (k - (i + n)) 0
 zero-behind i k n block bytes h l m e =
     let a : i + n - i ≡ n = omega arith in

@@ -84,7 +84,8 @@ unfolding openGives
 open-fields block e = rw e
 
 -- beside a refusal it gives none
-pub open-none : (block : List ℕ) → (openAnswer block ≡ 0 → ⊥) → openGives block ≡ record { answer = answerOf (openAnswer block); fields = noFields }
+pub open-none : (block : List ℕ) → (openAnswer block ≡ 0 → ⊥)
+    → openGives block ≡ record { answer = answerOf (openAnswer block); fields = noFields }
 unfolding openGives
 open-none block h = rw (ne-eqb (openAnswer block) 0 h)
 

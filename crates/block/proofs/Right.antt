@@ -68,7 +68,8 @@ right-body block h e0 =
     let (a7, e7) = passed 6 (numberWrong (fieldsOf block)) _ e6 in
     let (a8, e8) = passed 7 (faceTwice (fieldsOf block)) _ e7 in
     let (few-p, few-r) = neither-is (ltb maxPoints (pointCount block)) (ltb maxRows (rowCount block)) a4 in
-    let (zero-front, zero-r) = neither-is (notZero zerosAt pointsAt block || notZero (pointsAt + pointSize * pointCount block) rowsAt block) _ a5 in
+    let (zero-front, zero-r) =
+    neither-is (notZero zerosAt pointsAt block || notZero (pointsAt + pointSize * pointCount block) rowsAt block) _ a5 in
     let (zero-h, zero-p) = neither-is (notZero zerosAt pointsAt block) _ zero-front in
     record {
       version-is = eqb-true _ _ (not-false _ a3);

@@ -35,7 +35,8 @@ unfolding sumsOnto numbersFrom
 sums-from a b [] = simp add-zero
 sums-from a b (x ∷ xs) =
     let first = mod-add-mod a wrap x in
-    let second : (b % wrap + (a + x) % wrap) % wrap ≡ (b + (a + x)) % wrap = mod-add-mod b wrap ((a + x) % wrap) ∙ add-mod-mod b (a + x) wrap in
+    let second : (b % wrap + (a + x) % wrap) % wrap ≡ (b + (a + x)) % wrap =
+    mod-add-mod b wrap ((a + x) % wrap) ∙ add-mod-mod b (a + x) wrap in
     let p : a + x + sum xs ≡ a + sum (x ∷ xs) = omega arith in
     let q : b + (a + x) + secondFrom (a + x) xs ≡ b + secondFrom a (x ∷ xs) = omega (arith, second-step a x xs) in
     rw (first, second) (sums-from (a + x) (b + (a + x)) xs ∙ rw (p, q))
@@ -88,13 +89,15 @@ sumAt block i n = eqb (byte block i) (n % 256) && eqb (byte block (i + 1)) (n / 
 
 -- the sums are wrong where one of them differs from its two bytes
 sum-wrong-at : (block : List ℕ) → length block ≡ blockBytes
-    → let sums = sumsOf (take bodyBytes block) in sumWrong block ≡ not (sumAt block 508 (sums .first)) || not (sumAt block 510 (sums .second))
+    → let sums = sumsOf (take bodyBytes block) in
+    sumWrong block ≡ not (sumAt block 508 (sums .first)) || not (sumAt block 510 (sums .second))
 unfolding sumWrong sumBytes same
 sum-wrong-at block h =
     let a = sumsOf (take bodyBytes block) .first in
     let b = sumsOf (take bodyBytes block) .second in
     ap (λ xs. not (same eqb xs (sumBytes (take bodyBytes block)))) (four-at 508 block h)
-    ∙ tests (eqb (byte block 508) (a % 256)) (eqb (byte block 509) (a / 256)) (eqb (byte block 510) (b % 256)) (eqb (byte block 511) (b / 256))
+    ∙ tests (eqb (byte block 508) (a % 256)) (eqb (byte block 509) (a / 256)) (eqb (byte block 510) (b % 256))
+    (eqb (byte block 511) (b / 256))
   where
     tests : (p q r s : Bool) → not (p && (q && (r && (s && true)))) ≡ not (p && q) || not (r && s)
     tests true true true true = refl

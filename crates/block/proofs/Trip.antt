@@ -82,7 +82,8 @@ kept-read block opening =
         coordinates = body .coordinates;
         bytes =
             rw (rows-bytes block room (body .few-rows))
-            (every-take isByte (5 * rowCount block) (tableOf block) (every-take isByte 300 (drop 208 block) (every-drop isByte 208 block (opening .bytes))));
+            (every-take isByte (5 * rowCount block) (tableOf block)
+            (every-take isByte 300 (drop 208 block) (every-drop isByte 208 block (opening .bytes))));
       };
       rule = body .rule;
     }
@@ -123,5 +124,7 @@ seal-opens body out e =
     let patch = fieldsOf body in
     let points : length (patch .points) ≤ maxPoints = rw (points-counted body) (right .few-points) in
     let rows : length (patch .rows) ≤ maxRows = rw (rows-counted body) (right .few-rows) in
-    rw (seal-written body out e)
-    (opens (bytesOf patch) (bytes-right patch points rows (right .coordinates) (right .rule)), body-read patch points rows (sumBytes (bodyOf patch)))
+    rw (seal-written body out e) (
+      opens (bytesOf patch) (bytes-right patch points rows (right .coordinates) (right .rule)),
+      body-read patch points rows (sumBytes (bodyOf patch)),
+    )

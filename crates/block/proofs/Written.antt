@@ -14,7 +14,8 @@ use Rattle.measure.proofs.Points.{points-length}
 use Rattle.mesh.specs.Mesh.{rowSize, rowBytes, rowsIn, numbersFit, facesApart}
 use Rattle.mesh.proofs.Tables.{rows-length}
 use Rattle.block.specs.Layout.{Patch, bodyBytes, blockBytes, theVersion, maxPoints, maxRows, zerosAt, pointsAt, rowsAt}
-use Rattle.block.specs.Layout.{version, pointCount, rowCount, part, coordinatesOf, tableOf, fieldsOf, filled, bodyOf, sumBytes, bytesOf}
+use Rattle.block.specs.Layout.{version, pointCount, rowCount, part, coordinatesOf, tableOf, fieldsOf, filled, bodyOf, sumBytes}
+use Rattle.block.specs.Layout.{bytesOf}
 use Rattle.block.specs.Answers.{coordinateOver, numberWrong, faceTwice}
 use Rattle.block.specs.Within.{onGrid, keepsRule, RightBody, RightBlock}
 use Rattle.block.proofs.Cells.{point-cells, row-cells, written-length, points-read, rows-read, points-written, rows-written}
@@ -86,7 +87,8 @@ module _ (patch : Patch) (few-points : length (patch .points) ≤ maxPoints) (fe
   room rest = omega (arith, length-append (bodyOf patch) rest, body-length)
 
   -- a written patch is a right body, whatever stands behind it
-  pub body-right : T (every onGrid (flatMap pointBytes (patch .points))) → T (keepsRule patch) → (rest : List ℕ) → RightBody (bodyOf patch ++ rest)
+  pub body-right : T (every onGrid (flatMap pointBytes (patch .points))) → T (keepsRule patch) → (rest : List ℕ)
+      → RightBody (bodyOf patch ++ rest)
   body-right on-grid rule rest =
       let block = bodyOf patch ++ rest in
       let points = patch .points in
@@ -161,7 +163,8 @@ module _ (block : List ℕ) (room : bodyBytes ≤ length block) where
   pub points-bytes : pointCount block ≤ maxPoints
       → flatMap pointBytes (fieldsOf block .points) ≡ take (pointSize * pointCount block) (coordinatesOf block)
   unfolding fieldsOf
-  points-bytes few = points-written (coordinatesOf block) (pointCount block) (omega (arith, part-length pointsAt rowsAt block (omega arith)))
+  points-bytes few = points-written (coordinatesOf block) (pointCount block)
+      (omega (arith, part-length pointsAt rowsAt block (omega arith)))
 
   pub rows-bytes : rowCount block ≤ maxRows → flatMap rowBytes (fieldsOf block .rows) ≡ take (rowSize * rowCount block) (tableOf block)
   unfolding fieldsOf
@@ -174,7 +177,8 @@ module _ (block : List ℕ) (room : bodyBytes ≤ length block) where
   coordinates-tested few =
       let n = pointSize * pointCount block in
       let e : pointsAt + n - pointsAt ≡ n = omega arith in
-      ap (any (ltb maxCoordinate)) (points-bytes few ∙ (take-take n 192 (drop 16 block) (omega arith) ∙ ap (λ k. take k (drop 16 block)) (sym e)))
+      ap (any (ltb maxCoordinate)) (points-bytes few
+      ∙ (take-take n 192 (drop 16 block) (omega arith) ∙ ap (λ k. take k (drop 16 block)) (sym e)))
 
 -- the numbers that are tested are those of the rows, against the count
 pub numbers-tested : (block : List ℕ)

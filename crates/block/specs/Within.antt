@@ -1,4 +1,5 @@
--- Document 01's limits as statements: what a patch must be to stand in a block, what a block holds that opens, and the layout as a bijection.
+-- Document 01's limits as statements: what a patch must be to stand in a block, what a block holds that opens,
+-- and the layout as a bijection.
 use Prim.Native.Nat.{ℕ, _+_, _-_, _*_, _≤_}
 use mathlib.Core.Bool.{Bool}
 use mathlib.Core.List.{List, flatMap}
@@ -47,7 +48,8 @@ pub record RightBody (block : List ℕ) : Type 0 where
   pub few-points : pointCount block ≤ maxPoints
   pub few-rows : rowCount block ≤ maxRows
   pub zeros : part zerosAt pointsAt block ≡ replicate (pointsAt - zerosAt) 0
-  pub zero-points : part (pointsAt + pointSize * pointCount block) rowsAt block ≡ replicate (rowsAt - (pointsAt + pointSize * pointCount block)) 0
+  pub zero-points : part (pointsAt + pointSize * pointCount block) rowsAt block
+      ≡ replicate (rowsAt - (pointsAt + pointSize * pointCount block)) 0
   pub zero-rows : part (rowsAt + rowSize * rowCount block) bodyBytes block ≡ replicate (bodyBytes - (rowsAt + rowSize * rowCount block)) 0
   pub coordinates : T (every onGrid (flatMap pointBytes (fieldsOf block .points)))
   pub rule : T (keepsRule (fieldsOf block))

@@ -8,8 +8,10 @@ ghost use lib.ListN.{length, getD, take, drop, set};
 ghost use Rattle.lists.specs.Lists.{any};
 ghost use Rattle.measure.specs.Measure.{maxCoordinate};
 ghost use Rattle.block.specs.Layout.{blockBytes, bodyBytes, maxPoints, maxRows, pointCount, rowCount, fieldsOf, sumsOf, sealed};
-ghost use Rattle.block.specs.Answers.{sumWrong, zeroMissing, coordinateOver, numberWrong, faceTwice, firstRefusal, bodyTests, answerOf};
-ghost use Rattle.block.specs.Answers.{openAnswer, openFields, noFields, openGives, sealAnswer, sealBytes};
+ghost use Rattle.block.specs.Answers.{sumWrong, zeroMissing, coordinateOver, numberWrong, faceTwice, firstRefusal, bodyTests};
+ghost use Rattle.block.specs.Answers.{answerOf, openAnswer, openFields, noFields, openGives, sealAnswer, sealBytes};
+use measure::POINT_SIZE;
+use mesh::ROW_SIZE;
 
 // The bytes of a block.
 pub const BLOCK_BYTES: usize = 512;
@@ -34,11 +36,6 @@ pub const ZEROS_AT: usize = 3;
 pub const POINTS_AT: usize = 16;
 
 pub const ROWS_AT: usize = 208;
-
-// The bytes of a point, and of a row.
-pub const POINT_SIZE: usize = 3;
-
-pub const ROW_SIZE: usize = 5;
 
 // The bytes of all points, and of all rows.
 pub const COORDINATE_BYTES: usize = ROWS_AT - POINTS_AT;
@@ -88,7 +85,8 @@ pub fn sums_of(body: &[u8]) -> Sums
 // The two bytes at a place are not the sum, low byte first.
 fn differs(block: &[u8], at: usize, sum: u16) -> bool
     requires { ⌜ at + 1 < length (now block) ⌝ }
-    ensures { λ r. ⌜ r ≡ not (eqb (getD (now (block .entry)) at 0) (sum % 256) && eqb (getD (now (block .entry)) (at + 1) 0) (sum / 256)) ⌝ }
+    ensures { λ r. ⌜ r ≡ not (eqb (getD (now (block .entry)) at 0) (sum % 256)
+        && eqb (getD (now (block .entry)) (at + 1) 0) (sum / 256)) ⌝ }
 {
     if block[at] != (sum % 256) as u8 {
         return true;

@@ -68,7 +68,8 @@ two-fit a x b y ha hx hb hy =
 
 pub three-fit :
     (a x b y c z : ℤ)
-    → natAbs a ≤ largestByte → natAbs x ≤ minorLimit → natAbs b ≤ largestByte → natAbs y ≤ minorLimit → natAbs c ≤ largestByte → natAbs z ≤ minorLimit
+    → natAbs a ≤ largestByte → natAbs x ≤ minorLimit → natAbs b ≤ largestByte → natAbs y ≤ minorLimit
+    → natAbs c ≤ largestByte → natAbs z ≤ minorLimit
     → SFits w64 (a *ℤ x -ℤ b *ℤ y +ℤ c *ℤ z)
 three-fit a x b y c z ha hx hb hy hc hz =
     fits-size

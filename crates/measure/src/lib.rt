@@ -6,6 +6,7 @@ mod volumes;
 
 pub use marks::octave_mark;
 pub use marks::octave_of;
+pub use volumes::POINT_SIZE;
 pub use volumes::point_in;
 pub use volumes::spread;
 pub use volumes::volume;

@@ -4,13 +4,14 @@ ghost use Prim.Native.Nat.{_+_, _*_, _^_, _≤_};
 ghost use lib.IntN.{pos, natAbs, _+ℤ_, _-ℤ_, _*ℤ_};
 ghost use lib.ListN.{length};
 ghost use Rattle.measure.specs.Limits.{largestByte, minorLimit, volumeLimit, lengthLimit, spreadLimit};
-ghost use Rattle.measure.specs.Measure.{pointSize, pointIn, determinant as determinantOf, D, S, squaredLength, quality, qualityOf, fromParts};
+ghost use Rattle.measure.specs.Measure.{pointSize, pointIn, determinant as determinantOf, D, S, squaredLength, quality, qualityOf};
+ghost use Rattle.measure.specs.Measure.{fromParts};
 use crate::Kind;
 use crate::Point;
 use crate::Quality;
 
 // A point is x, y, z.
-const POINT_SIZE: usize = 3;
+pub const POINT_SIZE: usize = 3;
 
 // The 432 of 432·D²/S³.
 const QUALITY_FACTOR: u64 = 432;

@@ -14,7 +14,8 @@ use Rattle.mesh.specs.declared.Row.{Row}
 use Rattle.mesh.specs.Mesh.{Face, faces, sameFace, uses}
 use Rattle.mesh.specs.Keys.{threeAsOne, faceKey, rowKeys, tableKeys}
 use Rattle.mesh.proofs.Tables.{Bytes}
-use Rattle.mesh.proofs.Faces.{Turned, as-is, once, twice, same-turned, turned-same, turned-sym, turned-trans, turned-equal, each-face}
+use Rattle.mesh.proofs.Faces.{Turned, as-is, once, twice, same-turned, turned-same, turned-sym, turned-trans, turned-equal}
+use Rattle.mesh.proofs.Faces.{each-face}
 
 -- The three numbers of a face are bytes.
 pub record Small (f : Face) : Type 0 where
@@ -43,14 +44,16 @@ key-turn f = omega arith
 -- the face of which the key is the number
 key-of : (f : Face) → Small f → (g : Face) × Small g × Turned f g × (faceKey f ≡ asOne g)
 unfolding faceKey
-key-of f s = go (decLe (asOne f) (asOne (turn f))) (decLe (asOne f) (asOne (turn (turn f)))) (decLe (asOne (turn f)) (asOne (turn (turn f))))
+key-of f s = go (decLe (asOne f) (asOne (turn f))) (decLe (asOne f) (asOne (turn (turn f))))
+    (decLe (asOne (turn f)) (asOne (turn (turn f))))
   where
     go : Dec (asOne f ≤ asOne (turn f)) → Dec (asOne f ≤ asOne (turn (turn f))) → Dec (asOne (turn f) ≤ asOne (turn (turn f)))
         → (g : Face) × Small g × Turned f g × (min (asOne f) (min (asOne (turn f)) (asOne (turn (turn f)))) ≡ asOne g)
     go (yes a) (yes b) c = (f, s, as-is refl refl refl, omega arith)
     go (yes a) (no b) c =
         (turn (turn f), record { small-0 = s .small-2; small-1 = s .small-0; small-2 = s .small-1 }, once refl refl refl, omega arith)
-    go (no a) b (yes c) = (turn f, record { small-0 = s .small-1; small-1 = s .small-2; small-2 = s .small-0 }, twice refl refl refl, omega arith)
+    go (no a) b (yes c) =
+        (turn f, record { small-0 = s .small-1; small-1 = s .small-2; small-2 = s .small-0 }, twice refl refl refl, omega arith)
     go (no a) b (no c) =
         (turn (turn f), record { small-0 = s .small-2; small-1 = s .small-0; small-2 = s .small-1 }, once refl refl refl, omega arith)
 

@@ -1,4 +1,5 @@
 pub mod Tables
+pub mod Pasted
 pub mod Faces
 pub mod Counted
 pub mod Keys

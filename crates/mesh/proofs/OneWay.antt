@@ -15,7 +15,8 @@ use Rattle.lists.proofs.Lists.{every-at, every-cons}
 use Rattle.lists.proofs.Counts.{ind-either, count-cons}
 use Rattle.lists.proofs.Numbers.{different-cons, different-places, different-append}
 use Rattle.mesh.specs.declared.Row.{Row}
-use Rattle.mesh.specs.Mesh.{Face, faces, sameFace, reversed, usesEitherWay, numbers, uses, numbersFit, facesApart, keepsMeshRule, Proper}
+use Rattle.mesh.specs.Mesh.{Face, faces, sameFace, reversed, usesEitherWay, numbers, uses, numbersFit, facesApart, keepsMeshRule}
+use Rattle.mesh.specs.Mesh.{Proper}
 use Rattle.mesh.specs.Keys.{faceKey, rowKeys, tableKeys}
 use Rattle.mesh.proofs.Tables.{Bytes}
 use Rattle.mesh.proofs.Faces.{Turned, as-is, once, twice, same-turned, turned-same}
@@ -39,7 +40,8 @@ within =
     (omega arith, omega arith, omega arith) (omega arith, omega arith, omega arith)
 
 -- the same face of a proper row is the same face of the places
-places-turned : (count : ℕ) (row : Row) → Proper count row → (g h : Face) → Within g → Within h → Turned (faceAt row g) (faceAt row h) → Turned g h
+places-turned : (count : ℕ) (row : Row) → Proper count row → (g h : Face) → Within g → Within h
+    → Turned (faceAt row g) (faceAt row h) → Turned g h
 unfolding numbersFit
 places-turned count row pr g h v w t = go t
   where
@@ -97,7 +99,8 @@ keys-differ count row pr small =
     let kb = key b in
     let kc = key c in
     let kd = key d in
-    different-cons ka (kb ∷ kc ∷ kd ∷ []) (far a b (kc ∷ kd ∷ []) inA inB (λ h. h) (far a c (kd ∷ []) inA inC (λ h. h) (far a d [] inA inD (λ h. h) tt)))
+    different-cons ka (kb ∷ kc ∷ kd ∷ [])
+    (far a b (kc ∷ kd ∷ []) inA inB (λ h. h) (far a c (kd ∷ []) inA inC (λ h. h) (far a d [] inA inD (λ h. h) tt)))
     (different-cons kb (kc ∷ kd ∷ []) (far b c (kd ∷ []) inB inC (λ h. h) (far b d [] inB inD (λ h. h) tt))
     (different-cons kc (kd ∷ []) (far c d [] inC inD (λ h. h) tt) (different-cons kd [] tt tt)))
   where
@@ -140,7 +143,8 @@ apart-keys count (row ∷ rows) h pr =
     ))
 
 -- a table keeps the mesh rule exactly when every row is proper and no key of a face stands twice
-pub keeps-keys : (count : ℕ) (rows : List Row) → count ≤ 256 → keepsMeshRule count rows ≡ every (numbersFit count) rows && different (tableKeys rows)
+pub keeps-keys : (count : ℕ) (rows : List Row) → count ≤ 256
+    → keepsMeshRule count rows ≡ every (numbersFit count) rows && different (tableKeys rows)
 unfolding keepsMeshRule
 keeps-keys count rows h = go (either (every (numbersFit count) rows))
   where

@@ -8,7 +8,8 @@ use lib.ListN.{length, getD, take, drop, set, length-append}
 use lib.Seq.{drop-cons, sets-eq, take-at, length-take-le}
 
 module _ (l : List ℕ) (at : ℕ) (inside : at + 4 ≤ length l) where
-  pub four-stored : (a b c d : ℕ) → take (at + 4) (set (set (set (set l at a) (at + 1) b) (at + 2) c) (at + 3) d) ≡ take at l ++ a ∷ b ∷ c ∷ d ∷ []
+  pub four-stored : (a b c d : ℕ)
+      → take (at + 4) (set (set (set (set l at a) (at + 1) b) (at + 2) c) (at + 3) d) ≡ take at l ++ a ∷ b ∷ c ∷ d ∷ []
   four-stored a b c d =
       rw (add-one at, add-two at, add-three at, sets-eq (a ∷ b ∷ c ∷ d ∷ []) l at inside)
       (take-at (take at l ++ a ∷ b ∷ c ∷ d ∷ []) (drop (at + 4) l) (at + 4)

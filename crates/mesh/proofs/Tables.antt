@@ -43,7 +43,8 @@ unfolding numbersFrom
 rows-more table n = ap (rowsIn table) (omega arith) ∙ rows-append table n 1
 
 -- a row depends on its five bytes
-pub row-agree : (a b : List ℕ) (i : ℕ) → ((j : ℕ) → j < rowSize → getD a (rowSize * i + j) 0 ≡ getD b (rowSize * i + j) 0) → rowIn a i ≡ rowIn b i
+pub row-agree : (a b : List ℕ) (i : ℕ) → ((j : ℕ) → j < rowSize → getD a (rowSize * i + j) 0 ≡ getD b (rowSize * i + j) 0)
+    → rowIn a i ≡ rowIn b i
 unfolding rowIn
 row-agree a b i e = rw (e 0 (omega arith), e 1 (omega arith), e 2 (omega arith), e 3 (omega arith), e 4 (omega arith))
 

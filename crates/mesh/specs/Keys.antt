@@ -22,7 +22,8 @@ mostKeys = rowFaces * mostRows
 abbrev pub threeAsOne : ℕ → ℕ → ℕ → ℕ
 threeAsOne x y z = x * 65536 + y * 256 + z
 
--- turning a face's three numbers round in a circle gives the same face: of the three turns, the least as one number, so that the smallest is first
+-- turning a face's three numbers round in a circle gives the same face:
+-- of the three turns, the least as one number, so that the smallest is first
 unfoldable pub faceKey : Face → ℕ
 faceKey f =
     let x = f .0 in

@@ -1,11 +1,11 @@
 -- Document 01, "Orientation, faces and the mesh rule".
 use Prim.Native.Nat.{ℕ, _+_, _*_, _<_}
 use mathlib.Core.Bool.{Bool, true, not, _&&_, _||_}
-use mathlib.Core.List.{List, [], _∷_, foldr, map}
+use mathlib.Core.List.{List, [], _∷_, _++_, foldr, map, flatMap}
 use mathlib.Core.Path.{_≡_}
 use lib.Dec.{T, eqb, ltb}
 use lib.IntN.{ℤ, pos, _+ℤ_}
-use lib.ListN.{length, getD}
+use lib.ListN.{length, getD, take, drop}
 use Rattle.lists.specs.Lists.{every, any, has, different, numbersFrom}
 use Rattle.measure.specs.declared.Point.{Point}
 use Rattle.measure.specs.declared.Quality.{Quality}
@@ -35,6 +35,14 @@ rowsIn table n = map (rowIn table) (numbersFrom 0 n)
 abbrev pub rowBytes : Row → List ℕ
 rowBytes row = row .p ∷ row .q ∷ row .r ∷ row .s ∷ row .region ∷ []
 
+-- the bytes are written from a place on; every other byte stays
+abbrev pub pasted : List ℕ → ℕ → List ℕ → List ℕ
+pasted table at bytes = take at table ++ bytes ++ drop (at + length bytes) table
+
+-- rows are written from row number at on; every other byte stays
+abbrev pub withRows : List ℕ → ℕ → List Row → List ℕ
+withRows table at rows = pasted table (rowSize * at) (flatMap rowBytes rows)
+
 -- ---- rows and faces
 
 -- the four point numbers of a row
@@ -44,6 +52,14 @@ numbers row = row .p ∷ row .q ∷ row .r ∷ row .s ∷ []
 -- the row holds point n
 abbrev pub holds : Row → ℕ → Bool
 holds row n = has (numbers row) n
+
+-- the row holds both ends of an edge
+abbrev pub holdsEdge : ℕ → ℕ → Row → Bool
+holdsEdge a b row = holds row a && holds row b
+
+-- the row holds all numbers of a face
+abbrev pub holdsFace : List ℕ → Row → Bool
+holdsFace face row = every (holds row) face
 
 -- A directed face.
 abbrev pub Face : Type 0

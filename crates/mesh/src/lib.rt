@@ -1,16 +1,17 @@
 // Rows, directed faces and the mesh rule, on a table of rows as a byte slice with a count.
 ghost use mathlib.Core.Path.{_≡_};
 ghost use mathlib.Core.Bool.{not};
-ghost use mathlib.Core.List.{_++_};
+ghost use mathlib.Core.List.{[], _∷_, _++_};
 ghost use Prim.Native.Nat.{_+_, _*_, _<_, _≤_, min};
 ghost use lib.Dec.{ltb};
 ghost use lib.ListN.{length, take, drop};
 ghost use Rattle.lists.specs.Lists.{every, any, has, different};
-ghost use Rattle.mesh.specs.Mesh.{rowSize, rowIn, rowsIn, numbers, uses, numbersFit, facesApart, keepsMeshRule};
+ghost use Rattle.mesh.specs.Mesh.{rowSize, rowIn, rowsIn, withRows, numbers, holds, holdsEdge, holdsFace, uses};
+ghost use Rattle.mesh.specs.Mesh.{numbersFit, facesApart, keepsMeshRule};
 ghost use Rattle.mesh.specs.Keys.{mostRows, rowFaces, mostKeys, threeAsOne, faceKey, rowKeys, tableKeys, oneOf};
 
 // The bytes of a row, its faces, and the faces of the longest table: 60 rows of a block and one more while it is changed.
-const ROW_SIZE: usize = 5;
+pub const ROW_SIZE: usize = 5;
 
 const ROW_FACES: usize = 4;
 
@@ -38,6 +39,58 @@ pub fn row_in(table: &[u8], i: usize) -> Row
         s: table[at + 3],
         region: table[at + 4],
     }
+}
+
+// Row i of a table is written; every other byte stays.
+pub fn put_row(table: &mut [u8], i: usize, row: Row)
+    requires { ⌜ rowSize * i + rowSize ≤ length (now table) ⌝ }
+    ensures { λ _. ⌜ now (table .exit) ≡ withRows (now (table .entry)) i (row ∷ []) ⌝ }
+{
+    let at = ROW_SIZE * i;
+    table[at] = row.p;
+    table[at + 1] = row.q;
+    table[at + 2] = row.r;
+    table[at + 3] = row.s;
+    table[at + 4] = row.region;
+}
+
+// The row holds point n.
+pub fn row_holds(row: Row, n: u8) -> bool
+    ensures { λ r. ⌜ r ≡ holds row n ⌝ }
+{
+    if n == row.p {
+        return true;
+    }
+    if n == row.q {
+        return true;
+    }
+    if n == row.r {
+        return true;
+    }
+    n == row.s
+}
+
+// The row holds both ends of an edge.
+pub fn holds_edge(row: Row, a: u8, b: u8) -> bool
+    ensures { λ r. ⌜ r ≡ holdsEdge a b row ⌝ }
+{
+    if row_holds(row, a) {
+        return row_holds(row, b);
+    }
+    false
+}
+
+// The row holds the three numbers of a face.
+pub fn holds_face(row: Row, x: u8, y: u8, z: u8) -> bool
+    ensures { λ r. ⌜ r ≡ holdsFace (x ∷ y ∷ z ∷ []) row ⌝ }
+{
+    if !row_holds(row, x) {
+        return false;
+    }
+    if !row_holds(row, y) {
+        return false;
+    }
+    row_holds(row, z)
 }
 
 // ---- proper numbers
@@ -183,7 +236,8 @@ fn some_among(keys: &[u32; MOST_KEYS], n: usize, a: u32, b: u32, c: u32, d: u32)
 // No key of row i stands among the keys of the rows before it.
 fn row_apart(keys: &[u32; MOST_KEYS], i: usize) -> bool
     requires { ⌜ (length (now keys) ≡ mostKeys) × (i < mostRows) ⌝ }
-    ensures { λ r. ⌜ r ≡ every (λ k. not (has (take (rowFaces * i) (now (keys .entry))) k)) (take rowFaces (drop (rowFaces * i) (now (keys .entry)))) ⌝ }
+    ensures { λ r. ⌜ r ≡ every (λ k. not (has (take (rowFaces * i) (now (keys .entry))) k))
+        (take rowFaces (drop (rowFaces * i) (now (keys .entry)))) ⌝ }
 {
     let at = ROW_FACES * i;
     !some_among(keys, at, keys[at], keys[at + 1], keys[at + 2], keys[at + 3])

@@ -1,4 +1,3 @@
-pub mod Pasted
 pub mod Tables
 pub mod Staying
 pub mod Written

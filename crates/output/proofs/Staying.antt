@@ -8,44 +8,46 @@ use native.Mathlib.Omega.{arith}
 use lib.ListN.{length, drop, length-append}
 use Rattle.lists.specs.Lists.{every, those}
 use Rattle.lists.proofs.Lists.{those-yes, those-no, those-same}
-use Rattle.lists.proofs.Tests.{and-true}
 use Rattle.mesh.specs.declared.Row.{Row}
-use Rattle.mesh.specs.Mesh.{rowSize, rowBytes, rowIn, rowsIn, holds}
+use Rattle.mesh.specs.Mesh.{rowSize, rowBytes, rowIn, rowsIn, withRows, holds, holdsEdge, holdsFace}
 use Rattle.mesh.proofs.Tables.{rows-more}
-use Rattle.output.specs.Output.{stays, staying, pasted}
+use Rattle.output.specs.Output.{stays, staying}
 use Rattle.output.proofs.Tables.{front-more}
 
-twice : (a b : Bool) → a && (b && b) ≡ a && b
+twice : (a b : Bool) → a && (b && (b && true)) ≡ a && b
 twice true true = refl
 twice true false = refl
 twice false b = refl
 
 -- an edge
-pub edge-stays : (x y : ℕ) (row : Row) → stays x y y row ≡ not (holds row x && holds row y)
-unfolding stays
+pub edge-stays : (x y : ℕ) (row : Row) → stays x y y row ≡ not (holdsEdge x y row)
+unfolding stays every
 edge-stays x y row = ap not (twice (holds row x) (holds row y))
 
-pub edge-staying : (x y : ℕ) (rows : List Row) → staying x y y rows ≡ those (λ row. not (holds row x && holds row y)) rows
-edge-staying x y rows = those-same (stays x y y) (λ row. not (holds row x && holds row y)) (edge-stays x y) rows
+pub edge-staying : (x y : ℕ) (rows : List Row) → staying x y y rows ≡ those (λ row. not (holdsEdge x y row)) rows
+edge-staying x y rows = those-same (stays x y y) (λ row. not (holdsEdge x y row)) (edge-stays x y) rows
 
 -- a face
-pub face-stays : (x y z : ℕ) (row : Row) → stays x y z row ≡ not (every (holds row) (x ∷ y ∷ z ∷ []))
-unfolding stays every
-face-stays x y z row = ap (λ last. not (holds row x && (holds row y && last))) (sym (and-true (holds row z)))
+pub face-stays : (x y z : ℕ) (row : Row) → stays x y z row ≡ not (holdsFace (x ∷ y ∷ z ∷ []) row)
+unfolding stays
+face-stays x y z row = refl
 
-pub face-staying : (x y z : ℕ) (rows : List Row) → staying x y z rows ≡ those (λ row. not (every (holds row) (x ∷ y ∷ z ∷ []))) rows
-face-staying x y z rows = those-same (stays x y z) (λ row. not (every (holds row) (x ∷ y ∷ z ∷ []))) (face-stays x y z) rows
+pub face-staying : (x y z : ℕ) (rows : List Row) → staying x y z rows ≡ those (λ row. not (holdsFace (x ∷ y ∷ z ∷ []) row)) rows
+face-staying x y z rows = those-same (stays x y z) (λ row. not (holdsFace (x ∷ y ∷ z ∷ []) row)) (face-stays x y z) rows
 
 -- one row more of a table
 
 module _ (x y z : ℕ) (table rest : List ℕ) where
   -- the rows that stay, of the first i, are k and stand at the front of a table
   abbrev pub Front : ℕ → ℕ → List ℕ → Type 0
-  Front i k rows = (k ≡ length (staying x y z (rowsIn table i))) × (rows ≡ flatMap rowBytes (staying x y z (rowsIn table i)) ++ drop (rowSize * k) rest)
+  Front i k rows = (k ≡ length (staying x y z (rowsIn table i)))
+      × (rows ≡ flatMap rowBytes (staying x y z (rowsIn table i)) ++ drop (rowSize * k) rest)
 
-  module _ (i k : ℕ) (rows : List ℕ) (front : Front i k rows) (row : Row) (row-is : row ≡ rowIn table i) (test : Bool) (test-is : test ≡ stays x y z row) where
+  module _ (i k : ℕ) (rows : List ℕ) (front : Front i k rows) (row : Row) (row-is : row ≡ rowIn table i) (test : Bool)
+      (test-is : test ≡ stays x y z row) where
     -- row i stays and is written behind them
-    pub stays-more : test ≡ true → (after : List ℕ) (next : ℕ) → after ≡ pasted rows (rowSize * k) (rowBytes row) → next ≡ k + 1 → Front (i + 1) next after
+    pub stays-more : test ≡ true → (after : List ℕ) (next : ℕ) → after ≡ withRows rows k (row ∷ []) → next ≡ k + 1
+        → Front (i + 1) next after
     stays-more e after next a n =
         let yes : stays x y z (rowIn table i) ≡ true = ap (stays x y z) (sym row-is) ∙ (sym test-is ∙ e) in
         let kept = staying x y z (rowsIn table i) in

@@ -1,4 +1,5 @@
--- The bytes that are written are the block of the patch. The front of a block that opens is the front of its fields written, and only its byte 2 changes.
+-- The bytes that are written are the block of the patch. The front of a block that opens is the front of its fields written,
+-- and only its byte 2 changes.
 use Prim.Native.Nat.{ℕ, _+_, _-_, _*_, _≤_}
 use mathlib.Core.List.{List, [], _∷_, _++_, flatMap, append-nil, append-assoc}
 use mathlib.Core.Path.{_≡_, sym, ap, _∙_}
@@ -38,7 +39,8 @@ module _ (block : List ℕ) (opens : openAnswer block ≡ 0) where
   front-size : (rows : ℕ) → length (head count rows ++ points) ≡ rowsAt
   front-size rows =
       let few = right-block block opens .body .few-points in
-      let size = filled-length 192 (flatMap pointBytes (fieldsOf block .points)) (omega (arith, written-length point-cells (fieldsOf block .points), points-counted block)) in
+      let size = filled-length 192 (flatMap pointBytes (fieldsOf block .points))
+      (omega (arith, written-length point-cells (fieldsOf block .points), points-counted block)) in
       length-append (head count rows) points ∙ ap (λ n. 16 + n) size
 
   front-read : take rowsAt block ≡ head count (length (fieldsOf block .rows)) ++ points
@@ -55,7 +57,8 @@ module _ (block : List ℕ) (opens : openAnswer block ≡ 0) where
   front-set n = ap (λ front. set front 2 n) front-read
 
 -- a table whose unused rows are zero is its rows, written
-table-whole : (rows : List ℕ) (n : ℕ) → length rows ≡ tableBytes → n ≤ maxRows → drop (rowSize * n) rows ≡ replicate (tableBytes - rowSize * n) 0
+table-whole : (rows : List ℕ) (n : ℕ) → length rows ≡ tableBytes → n ≤ maxRows
+    → drop (rowSize * n) rows ≡ replicate (tableBytes - rowSize * n) 0
     → tableWith (rowsIn rows n) ≡ rows
 table-whole rows n size few zeros =
     let bytes = rows-written rows n (omega arith) in
@@ -100,11 +103,13 @@ module _ (block rows : List ℕ) (n : ℕ) (out : List ℕ) (ready : Ready block
       let copied : one ≡ take rowsAt block ++ drop rowsAt out = e1 ∙ ap (λ k. take rowsAt block ++ drop k out) is-front in
       let two : set one 2 n ≡ top ++ drop rowsAt out = ap (λ bytes. set bytes 2 n) copied ∙ top-written in
       let top-size = front-size block (ready .opens) n in
-      let nothing = drop-of-length-le (part rowsAt bodyBytes (set one 2 n)) {i = length rows} (simp length-take (omega (arith, ready .size))) in
+      let nothing =
+      drop-of-length-le (part rowsAt bodyBytes (set one 2 n)) {i = length rows} (simp length-take (omega (arith, ready .size))) in
       let is-table : table ≡ rows = e2 ∙ (ap (λ rest. rows ++ rest) nothing ∙ append-nil rows) in
       let rest = drop (bodyBytes - rowsAt) (drop rowsAt (set one 2 n)) in
       let is-top : take rowsAt (set one 2 n) ≡ top = ap (take rowsAt) two ∙ take-at top (drop rowsAt out) rowsAt top-size in
-      let is-three : three ≡ top ++ rows ++ rest = e3 ∙ (ap (λ front. front ++ (table ++ rest)) is-top ∙ (ap (λ middle. top ++ (middle ++ rest)) is-table ∙ sym (append-assoc top rows rest))) in
+      let is-three : three ≡ top ++ rows ++ rest = e3 ∙ (ap (λ front. front ++ (table ++ rest)) is-top
+      ∙ (ap (λ middle. top ++ (middle ++ rest)) is-table ∙ sym (append-assoc top rows rest))) in
       let body-size = length-append top rows in
       ap (take bodyBytes) is-three ∙ (take-at (top ++ rows) rest bodyBytes (omega (arith, ready .size)) ∙ body-whole)
 

@@ -1,27 +1,23 @@
 -- Document 01, "Ring and replacement" and "Plain flips": the block afterwards, from the rows that stay and the new rows behind them.
-use Prim.Native.Nat.{ℕ, _+_, _-_, _*_, _≤_}
-use mathlib.Core.Bool.{Bool, not, _&&_}
-use mathlib.Core.List.{List, _++_, flatMap}
+use Prim.Native.Nat.{ℕ, _-_, _*_, _≤_}
+use mathlib.Core.Bool.{Bool, not}
+use mathlib.Core.List.{List, [], _∷_, flatMap}
 use mathlib.Core.Path.{_≡_}
-use lib.ListN.{length, take, drop, replicate}
+use lib.ListN.{length, drop, replicate}
 use Rattle.lists.specs.Lists.{those}
 use Rattle.measure.specs.declared.Point.{Point}
 use Rattle.mesh.specs.declared.Row.{Row}
-use Rattle.mesh.specs.Mesh.{rowSize, rowBytes, holds}
+use Rattle.mesh.specs.Mesh.{rowSize, rowBytes, holdsFace}
 use Rattle.block.specs.Layout.{Patch, blockBytes, bodyBytes, maxRows, rowsAt, filled}
 use Rattle.block.specs.Answers.{openAnswer}
 
 -- a row is kept that does not hold all three numbers of a face; an edge is given with its second end twice
 unfoldable pub stays : ℕ → ℕ → ℕ → Row → Bool
-stays x y z row = not (holds row x && (holds row y && holds row z))
+stays x y z row = not (holdsFace (x ∷ y ∷ z ∷ []) row)
 
 -- the kept rows in order
 abbrev pub staying : ℕ → ℕ → ℕ → List Row → List Row
 staying x y z rows = those (stays x y z) rows
-
--- the bytes are written from a place on; every other byte stays
-abbrev pub pasted : List ℕ → ℕ → List ℕ → List ℕ
-pasted table at bytes = take at table ++ bytes ++ drop (at + length bytes) table
 
 -- 60 rows of 5 bytes
 abbrev pub tableBytes : ℕ

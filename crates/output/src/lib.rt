@@ -1,71 +1,36 @@
 // The block afterwards: the rows that stay, the new rows behind them, and the sums made anew.
 ghost use mathlib.Core.Path.{_≡_};
 ghost use mathlib.Core.List.{_++_, flatMap};
-ghost use Prim.Native.Nat.{_+_, _*_, _≤_};
+ghost use Prim.Native.Nat.{_*_, _≤_};
 ghost use lib.ListN.{length, drop};
-ghost use Rattle.mesh.specs.Mesh.{rowSize, rowBytes, rowsIn, holds};
+ghost use Rattle.mesh.specs.Mesh.{rowSize, rowBytes, rowsIn};
 ghost use Rattle.block.specs.Layout.{fieldsOf, bytesOf};
-ghost use Rattle.output.specs.Output.{stays, staying, pasted, patchWith, Ready};
+ghost use Rattle.output.specs.Output.{stays, staying, patchWith, Ready};
 use block::BODY_BYTES;
-use block::ROW_SIZE;
 use block::ROWS_AT;
 use mesh::Row;
 
 // ---- rows in a scratch table
 
-// Row i of a table is written; every other byte stays.
-pub fn put_row(rows: &mut [u8], i: usize, row: Row)
-    requires { ⌜ rowSize * i + rowSize ≤ length (now rows) ⌝ }
-    ensures { λ _. ⌜ now (rows .exit) ≡ pasted (now (rows .entry)) (rowSize * i) (rowBytes row) ⌝ }
-{
-    let at = ROW_SIZE * i;
-    rows[at] = row.p;
-    rows[at + 1] = row.q;
-    rows[at + 2] = row.r;
-    rows[at + 3] = row.s;
-    rows[at + 4] = row.region;
-}
-
-// The row holds point n.
-fn row_holds(row: Row, n: u8) -> bool
-    ensures { λ r. ⌜ r ≡ holds row n ⌝ }
-{
-    if n == row.p {
-        return true;
-    }
-    if n == row.q {
-        return true;
-    }
-    if n == row.r {
-        return true;
-    }
-    n == row.s
-}
-
 // The row does not hold all three numbers; an edge is given with its second end twice.
 fn row_stays(row: Row, x: u8, y: u8, z: u8) -> bool
     ensures { λ r. ⌜ r ≡ stays x y z row ⌝ }
 {
-    if !row_holds(row, x) {
-        return true;
-    }
-    if !row_holds(row, y) {
-        return true;
-    }
-    !row_holds(row, z)
+    !mesh::holds_face(row, x, y, z)
 }
 
 // The rows that stay, in order, are written to the front of the scratch table; their number is returned.
 pub fn keep_others(table: &[u8], n: usize, x: u8, y: u8, z: u8, rows: &mut [u8]) -> usize
     requires { ⌜ (rowSize * n ≤ length (now table)) × (rowSize * n ≤ length (now rows)) ⌝ }
     ensures { λ r. ⌜ (r ≡ length (staying x y z (rowsIn (now (table .entry)) n)))
-        × (now (rows .exit) ≡ flatMap rowBytes (staying x y z (rowsIn (now (table .entry)) n)) ++ drop (rowSize * r) (now (rows .entry))) ⌝ }
+        × (now (rows .exit) ≡ flatMap rowBytes (staying x y z (rowsIn (now (table .entry)) n))
+        ++ drop (rowSize * r) (now (rows .entry))) ⌝ }
 {
     let mut kept: usize = 0;
     for i in 0..n {
         let row = mesh::row_in(table, i);
         if row_stays(row, x, y, z) {
-            put_row(rows, kept, row);
+            mesh::put_row(rows, kept, row);
             kept += 1;
         }
     }

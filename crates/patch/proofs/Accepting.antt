@@ -11,13 +11,14 @@ use Rattle.block.specs.Answers.{Tests, firstRefusal}
 use Rattle.block.proofs.Refusals.{goes-on, refuses}
 use Rattle.block.proofs.Right.{right-block}
 use Rattle.block.proofs.Written.{rows-counted}
-use Rattle.ring.specs.Ring.{Site, siteOf, m, minRing, holdsEdge, lengthWrong}
+use Rattle.mesh.specs.Mesh.{holdsEdge, holdsFace}
+use Rattle.ring.specs.Ring.{Site, siteOf, m, minRing, lengthWrong}
 use Rattle.pieces.specs.Triangulation.{newRows, tableAfter, rowsAfter}
 use Rattle.pieces.specs.Admissible.{admissible}
 use Rattle.pieces.specs.Best.{chosen}
 use Rattle.pieces.proofs.Rings.{after-length, after-rows}
 use Rattle.patch.specs.Removing.{noRoom, noWay, noneBetter, patchAfter, totalDiffers, removalTests, removeAnswer, removeBytes, Sound}
-use Rattle.patch.specs.Flipping.{flip32Answer, flip32Bytes, holdsFace, pairOf, threeRows, patchAfter23, flip23Answer, flip23Bytes}
+use Rattle.patch.specs.Flipping.{flip32Answer, flip32Bytes, pairOf, threeRows, patchAfter23, flip23Answer, flip23Bytes}
 use Rattle.patch.specs.Demands.{Accepted, Room}
 use Rattle.patch.proofs.Answering.{Flips23, removes, remove-left, flips-32, flips-23}
 use Rattle.patch.proofs.Facing.{Facing, face-apart, facing, flipped-total}
@@ -80,7 +81,8 @@ room block out e f sound size low high = (λ h. go (noRoom its) refl (sym first 
     go : (b : Bool) → noRoom its ≡ b → firstRefusal ((14, noRoom its) ∷ rest) ≡ 14 → maxRows < length (fieldsOf block .rows) + m its - 4
     go true h k = omega (arith, ltb-true maxRows (rowsAfter its) h, rows-after block e f sound low)
     go false h k =
-        absurd (not-14 (noWay its) (noneBetter its) (totalDiffers (fieldsOf block) (patchAfter its)) (sym (goes-on 14 (noRoom its) rest h) ∙ k))
+        absurd (not-14 (noWay its) (noneBetter its) (totalDiffers (fieldsOf block) (patchAfter its))
+        (sym (goes-on 14 (noRoom its) rest h) ∙ k))
 
 -- ---- the calls
 
@@ -91,7 +93,8 @@ unfolding removeBytes
 remove-accepted block out e f h =
     let r = removes block out e f h in
     let site = siteOf (fieldsOf block) e f in
-    rw h (site-accepted block e f (r .sound) (length-fits site (r .length-right) .0) (r .way) (ltb-false maxRows (rowsAfter site) (r .room)))
+    rw h (site-accepted block e f (r .sound) (length-fits site (r .length-right) .0) (r .way)
+    (ltb-false maxRows (rowsAfter site) (r .room)))
 
 pub flip32-accepted : (block out : List ℕ) (e f : ℕ) → flip32Answer block out e f ≡ 0
     → let site = siteOf (fieldsOf block) e f in

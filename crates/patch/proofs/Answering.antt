@@ -7,7 +7,7 @@ use borrow.Author.Tests.{eqb-true, eqb-false, eq-eqb, ltb-false, not-false}
 use lib.Dec.{T, eqb, ltb}
 use lib.ListN.{length}
 use Rattle.lists.specs.Lists.{every}
-use Rattle.lists.proofs.Tests.{and-l, and-r, no-is, is-yes, neither-is}
+use Rattle.lists.proofs.Tests.{and-l, and-r, no-is, is-yes, neither-is, or-true}
 use Rattle.mesh.specs.Mesh.{keepsMeshRule}
 use Rattle.block.specs.Layout.{blockBytes, maxRows, fieldsOf}
 use Rattle.block.specs.Answers.{Tests, firstRefusal, notBlock, sumWrong, bodyTests, openAnswer}
@@ -15,7 +15,6 @@ use Rattle.block.proofs.Refusals.{passed, goes-on, refuses}
 use Rattle.ring.specs.Ring.{Site, siteOf, m, minRing, numbersWrong, lengthWrong, edgeTests}
 use Rattle.patch.specs.Removing.{blockTests, noRoom, noWay, noneBetter, patchAfter, totalDiffers, removalTests, removeAnswer, Sound}
 use Rattle.patch.specs.Flipping.{flip32Tests, flip32Answer, pairOf, patchAfter23, flip23Tests, flip23Answer}
-use Rattle.patch.proofs.Lists.{or-true}
 
 -- ---- tests one after another
 
@@ -45,7 +44,8 @@ front-passed ((k, b) ∷ xs) ys h e = go b e (front-passed xs ys (and-r (not (eq
     go false e f = f e
 
 -- tests behind others matter only if those are passed
-pub same-behind : (xs ys zs : Tests) → (firstRefusal xs ≡ 0 → firstRefusal ys ≡ firstRefusal zs) → firstRefusal (xs ++ ys) ≡ firstRefusal (xs ++ zs)
+pub same-behind : (xs ys zs : Tests) → (firstRefusal xs ≡ 0 → firstRefusal ys ≡ firstRefusal zs)
+    → firstRefusal (xs ++ ys) ≡ firstRefusal (xs ++ zs)
 unfolding firstRefusal
 same-behind [] ys zs f = f refl
 same-behind ((k, b) ∷ xs) ys zs f = go b f (same-behind xs ys zs)
@@ -88,12 +88,14 @@ pub block-opened : (block out : List ℕ) (rest : Tests) → openAnswer block �
 unfolding blockTests
 block-opened block out rest opens = go (eqb (length out) blockBytes) refl
   where
-    go : (b : Bool) → eqb (length out) blockBytes ≡ b → firstRefusal (blockTests block out ++ rest) ≡ firstRefusal ((1, notBlock out) ∷ rest)
+    go : (b : Bool) → eqb (length out) blockBytes ≡ b
+        → firstRefusal (blockTests block out ++ rest) ≡ firstRefusal ((1, notBlock out) ∷ rest)
     go true e =
-        front-passed (blockTests block out) rest (block-numbered block out) (passed-block block out opens (eqb-true (length out) blockBytes e))
+        front-passed (blockTests block out) rest (block-numbered block out)
+        (passed-block block out opens (eqb-true (length out) blockBytes e))
         ∙ sym (goes-on 1 (notBlock out) rest (ap not e))
     go false e =
-        refuses 1 (notBlock block || notBlock out) _ (or-true (notBlock block) (notBlock out) (ap not e))
+        refuses 1 (notBlock block || notBlock out) _ (ap (λ b. notBlock block || not b) e ∙ or-true (notBlock block))
         ∙ sym (refuses 1 (notBlock out) rest (ap not e))
 
 -- what is left to test behind them
@@ -173,7 +175,8 @@ flip32-left block out e f sound size = left block out e f _ sound size
 pub flip23-left : (block out : List ℕ) (x y z : ℕ) → openAnswer block ≡ 0 → length out ≡ blockBytes
     → flip23Answer block out x y z ≡ firstRefusal (flip23Tests (fieldsOf block) (x ∷ y ∷ z ∷ []))
 unfolding flip23Answer
-flip23-left block out x y z opens size = front-passed (blockTests block out) _ (block-numbered block out) (passed-block block out opens size)
+flip23-left block out x y z opens size =
+    front-passed (blockTests block out) _ (block-numbered block out) (passed-block block out opens size)
 
 -- What answer 0 of a 2-3 flip says.
 pub record Flips23 (block out : List ℕ) (x y z : ℕ) : Type 0 where

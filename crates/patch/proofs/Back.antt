@@ -13,19 +13,20 @@ use Rattle.lists.specs.Lists.{every, any, those}
 use Rattle.lists.proofs.Lists.{any-i, every-i, those-e}
 use Rattle.lists.proofs.Counts.{count-append, count-split}
 use Rattle.mesh.specs.declared.Row.{Row}
-use Rattle.mesh.specs.Mesh.{keepsMeshRule}
+use Rattle.mesh.specs.Mesh.{keepsMeshRule, holdsEdge, holdsFace}
 use Rattle.mesh.specs.Tetrahedra.{rearranged, SameTetrahedra}
 use Rattle.mesh.proofs.Alike.{same-keeps, same-cons, same-append, same-swap}
 use Rattle.mesh.proofs.Evenly.{even-region}
 use Rattle.block.specs.Layout.{Patch, blockBytes, fieldsOf}
 use Rattle.block.specs.Answers.{firstRefusal}
-use Rattle.ring.specs.Ring.{Site, siteOf, m, holdsEdge}
+use Rattle.ring.specs.Ring.{Site, siteOf, m}
 use Rattle.ring.proofs.Rounding.{smallest-le}
 use Rattle.pieces.specs.Triangulation.{side, cut, span, regionOf, tableAfter}
 use Rattle.pieces.specs.Admissible.{admissible}
 use Rattle.pieces.specs.Best.{chosen}
 use Rattle.patch.specs.Removing.{Sound}
-use Rattle.patch.specs.Flipping.{flip32Tests, flip32Answer, flip32Bytes, holdsFace, Pair, pairOf, threeRows, patchAfter23, flip23Answer, flip23Bytes}
+use Rattle.patch.specs.Flipping.{flip32Tests, flip32Answer, flip32Bytes, Pair, pairOf, threeRows, patchAfter23}
+use Rattle.patch.specs.Flipping.{flip23Answer, flip23Bytes}
 use Rattle.patch.specs.Demands.{Way, Flipped, BroughtBack}
 use Rattle.patch.proofs.Answering.{flips-23, flip32-left}
 use Rattle.patch.proofs.Sites.{opens-rule}

@@ -1,6 +1,6 @@
 -- Answers 14 to 17 of a removal, one by one: what decides each, given what the tests above it found.
 use Prim.Native.Nat.{ℕ, suc, _+_, _-_, _*_, _≤_, _<_, min, max}
-use mathlib.Core.Bool.{true, false, cond, not, _&&_}
+use mathlib.Core.Bool.{true, false, cond, not}
 use mathlib.Core.List.{List, [], _∷_, map}
 use mathlib.Core.Option.{Option, none, some, Option·getD}
 use mathlib.Core.Path.{_≡_, refl, sym, ap, _∙_, subst}
@@ -14,7 +14,7 @@ use Rattle.lists.proofs.Lists.{those-split}
 use Rattle.measure.specs.declared.Quality.{Quality}
 use Rattle.measure.specs.Measure.{pointsIn, sameZ, worse, worst, asGood, zeroQuality}
 use Rattle.measure.proofs.Points.{points-length}
-use Rattle.mesh.specs.Mesh.{rowsIn, holds, numbersFit, rowQuality, totalD}
+use Rattle.mesh.specs.Mesh.{rowsIn, holdsEdge, numbersFit, rowQuality, totalD}
 use Rattle.mesh.proofs.Rule.{keeps-fits}
 use Rattle.mesh.proofs.Tables.{rows-length}
 use Rattle.block.specs.declared.Answer.the-variants.{Done, Refused}
@@ -23,11 +23,12 @@ use Rattle.block.specs.Answers.{firstRefusal, coordinateOver}
 use Rattle.block.proofs.Refusals.{passed, goes-on, refuses}
 use Rattle.tally.specs.Measured.{Measured, patchIn}
 use Rattle.ring.specs.declared.Ring.{Ring}
-use Rattle.ring.specs.Ring.{Site, siteOf, m, holdsEdge}
+use Rattle.ring.specs.Ring.{Site, siteOf, m}
 use Rattle.pieces.specs.declared.Best.the-variants.{Mark, Worst}
 use Rattle.pieces.specs.Triangulation.{tableAfter, rowsAfter}
 use Rattle.pieces.specs.Best.{bestWorst, chosen, sameBest}
 use Rattle.pieces.specs.Filling.{siteIn, bestOf}
+use Rattle.pieces.proofs.Optimal.{none-best}
 use Rattle.output.specs.Output.{tableBytes}
 use Rattle.output.proofs.Tables.{table-size, table-read}
 use Rattle.patch.specs.declared.carrying.Carried.{Carried}
@@ -40,17 +41,13 @@ use Rattle.patch.proofs.Handed.{Number, number-handed, handed-done}
 
 -- ---- what the table of pieces keeps for the whole ring
 
-mark-kept : (o : Option Quality) → T (sameBest none o) → o ≡ none
-unfolding sameBest
-mark-kept none h = refl
-mark-kept (some q) h = absurd h
-
 best-kept : (q : Quality) (o : Option Quality) → T (sameBest (some q) o) → (r : Quality) × (o ≡ some r) × T (asGood q r)
 unfolding sameBest
 best-kept q none h = absurd h
 best-kept q (some r) h = (r, refl, h)
 
-module _ (coordinates : List ℕ) (count : ℕ) (table : List ℕ) (n a b : ℕ) {ring : Ring} (given : Ringed coordinates count table n a b ring) where
+module _ (coordinates : List ℕ) (count : ℕ) (table : List ℕ) (n a b : ℕ) {ring : Ring}
+    (given : Ringed coordinates count table n a b ring) where
   abbrev its : Site
   its = siteIn coordinates count table n a b
 
@@ -81,7 +78,8 @@ module _ (coordinates : List ℕ) (count : ℕ) (table : List ℕ) (n a b : ℕ)
   room-32 e = omega (arith, ring-size, given .size, all-rows, given .ready .few-rows)
 
   -- the rows afterwards can be measured
-  module _ (rows : Rows) (rows-are : rows ≡ rowsWith (tableAfter its (chosen its))) (way : noWay its ≡ false) (room : rowsAfter its ≤ maxRows) where
+  module _ (rows : Rows) (rows-are : rows ≡ rowsWith (tableAfter its (chosen its))) (way : noWay its ≡ false)
+      (room : rowsAfter its ≤ maxRows) where
     few-after : length (tableAfter its (chosen its)) ≤ maxRows
     few-after = omega (arith, chosen-rows its (given .sound) three way)
 
@@ -91,7 +89,8 @@ module _ (coordinates : List ℕ) (count : ℕ) (table : List ℕ) (n a b : ℕ)
     pub measured-after : Measured coordinates count (rows .table) (rows .n)
     unfolding siteOf coordinateOver
     measured-after =
-        let size : length (rows .table) ≡ tableBytes = ap (λ (rows : Rows). length (rows .table)) rows-are ∙ table-size (tableAfter its (chosen its)) few-after in
+        let size : length (rows .table) ≡ tableBytes = ap (λ (rows : Rows). length (rows .table)) rows-are
+        ∙ table-size (tableAfter its (chosen its)) few-after in
         let number : rows .n ≡ length (tableAfter its (chosen its)) = ap (λ (rows : Rows). rows .n) rows-are in
         let fit = keeps-fits (length (its .points)) (tableAfter its (chosen its)) (chosen-keeps its (given .sound) three way) in
         let own = subst (λ c. T (every (numbersFit c) (tableAfter its (chosen its)))) (points-length coordinates count) fit in
@@ -108,7 +107,7 @@ module _ (coordinates : List ℕ) (count : ℕ) (table : List ℕ) (n a b : ℕ)
     pub marked : way .best ≡ Mark → noWay its ≡ true
     marked e =
         mark-no-way its (given .sound) three
-        (mark-kept (bestWorst its 1 (m its)) (subst (λ best. T (sameBest (bestOf best) (bestWorst its 1 (m its)))) e (carries .best)))
+        (none-best (bestWorst its 1 (m its)) (subst (λ best. T (sameBest (bestOf best) (bestWorst its 1 (m its)))) e (carries .best)))
 
     module _ (q : Quality) (is : way .best ≡ Worst q) where
       kept : (r : Quality) × (bestWorst its 1 (m its) ≡ some r) × T (asGood q r)
@@ -132,7 +131,8 @@ module _ (coordinates : List ℕ) (count : ℕ) (table : List ℕ) (n a b : ℕ)
     pub has-room : rowsAfter its ≤ maxRows
     has-room = omega (arith, room-is)
 
-    passed-14 : planAnswer patch its ≡ firstRefusal ((15, noWay its) ∷ (16, noneBetter its) ∷ (17, totalDiffers patch (patchAfter its)) ∷ [])
+    passed-14 : planAnswer patch its
+        ≡ firstRefusal ((15, noWay its) ∷ (16, noneBetter its) ∷ (17, totalDiffers patch (patchAfter its)) ∷ [])
     unfolding planAnswer
     passed-14 = goes-on 14 (noRoom its) _ (le-ltb maxRows (rowsAfter its) has-room)
 
@@ -146,7 +146,7 @@ module _ (coordinates : List ℕ) (count : ℕ) (table : List ℕ) (n a b : ℕ)
 
         -- the worst of the rows that hold both ends
         abbrev round : Quality
-        round = Option·getD (worst (map (rowQuality (pointsIn coordinates count)) (those (λ row. holds row a && holds row b) (rowsIn table n)))) zeroQuality
+        round = Option·getD (worst (map (rowQuality (pointsIn coordinates count)) (those (holdsEdge a b) (rowsIn table n)))) zeroQuality
 
         round-now : round ≡ worstNow its
         unfolding worstNow siteOf
@@ -158,7 +158,8 @@ module _ (coordinates : List ℕ) (count : ℕ) (table : List ℕ) (n a b : ℕ)
         module _ (now : Quality) (now-is : now ≡ round) where
           decides : noneBetter its ≡ not (worse now q)
           decides =
-              best-decides its (given .sound) three (kept way carries q is .1) q (record { over = carries .fraction q (ap bestOf is) }) (kept way carries q is .2)
+              best-decides its (given .sound) three (kept way carries q is .1) q (record { over = carries .fraction q (ap bestOf is) })
+              (kept way carries q is .2)
               ∙ ap (λ p. not (worse p q)) (sym (now-is ∙ round-now))
 
           pub gives-16 : worse now q ≡ false → noPlan (Refused 16) ≡ planOf patch its
@@ -170,7 +171,8 @@ module _ (coordinates : List ℕ) (count : ℕ) (table : List ℕ) (n a b : ℕ)
           pub measured-way : Measured coordinates count (way .rows .table) (way .rows .n)
           measured-way = measured-after (way .rows) after (unmarked way carries q is) has-room
 
-          module _ (better : worse now q ≡ true) (before total : ℤ) (before-is : before ≡ totalD (pointsIn coordinates count) (rowsIn table n))
+          module _ (better : worse now q ≡ true) (before total : ℤ)
+              (before-is : before ≡ totalD (pointsIn coordinates count) (rowsIn table n))
               (total-is : total ≡ totalD (pointsIn coordinates count) (rowsIn (way .rows .table) (way .rows .n))) where
             passed-16 : planAnswer patch its ≡ firstRefusal ((17, totalDiffers patch (patchAfter its)) ∷ [])
             passed-16 = passed-15 ∙ goes-on 16 (noneBetter its) _ (decides ∙ ap not better)

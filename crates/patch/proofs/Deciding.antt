@@ -28,7 +28,10 @@ use Rattle.patch.specs.Removing.{worstNow, noWay, noneBetter}
 module _ (site : Site) (sound : SoundRing site) (three : 3 ≤ m site) where
   -- the ways of the ring are the admissible triangulations of piece (1,m)
   piece-way : {t : Tri} → RingWay site t → Way site 1 (m site) t
-  piece-way {t} w = record { ends = omega (arith, w .spans); admissible = subst T (ring-admissible site sound t (w .spans) three) (w .keeps) }
+  piece-way {t} w = record {
+    ends = omega (arith, w .spans);
+    admissible = subst T (ring-admissible site sound t (w .spans) three) (w .keeps);
+  }
 
   ring-way : {t : Tri} → Way site 1 (m site) t → RingWay site t
   ring-way {t} w =
@@ -67,7 +70,8 @@ module _ (site : Site) (sound : SoundRing site) (three : 3 ≤ m site) where
         let test : Tri → Bool = λ t. not (worse now (worstOfWay site 1 t)) in
         same-test (every test (ringWays site)) (not (worse now p))
         (λ h.
-        let own : worstOfWay site 1 (top .by) ⊑ now = record { not-worse = every-at test (ringWays site) h (way-listed site three (ring-way (top .way))) } in
+        let own : worstOfWay site 1 (top .by) ⊑ now =
+        record { not-worse = every-at test (ringWays site) h (way-listed site three (ring-way (top .way))) } in
         at-most-trans (top .fraction) (equal .up) (subst (λ x. x ⊑ now) (top .worst) own) .not-worse)
         (λ h. every-i test (ringWays site) (λ t k.
         let low = top .bounds t (piece-way (listed-way site three k)) in

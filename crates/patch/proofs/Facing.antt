@@ -17,7 +17,7 @@ use Rattle.measure.specs.declared.Point.{Point}
 use Rattle.measure.specs.Measure.{D}
 use Rattle.measure.proofs.Identities.{five-points}
 use Rattle.mesh.specs.declared.Row.{Row}
-use Rattle.mesh.specs.Mesh.{uses, place, numbersFit, keepsMeshRule, rowD, totalD}
+use Rattle.mesh.specs.Mesh.{uses, place, numbersFit, keepsMeshRule, rowD, totalD, holdsFace}
 use Rattle.mesh.specs.Tetrahedra.{rearranged, arrangedFrom}
 use Rattle.mesh.proofs.Measured.{even-D, total-split}
 use Rattle.mesh.proofs.Rule.{keeps-fits, keeps-hits}
@@ -25,7 +25,7 @@ use Rattle.block.specs.Layout.{Patch}
 use Rattle.ring.specs.Ring.{smallest, numbersWrong}
 use Rattle.ring.proofs.Rounding.{smallest-in}
 use Rattle.pieces.proofs.Total.{total-append}
-use Rattle.patch.specs.Flipping.{holdsFace, Pair, pairOf, threeRows, patchAfter23}
+use Rattle.patch.specs.Flipping.{Pair, pairOf, threeRows, patchAfter23}
 use Rattle.patch.proofs.Pairs.{Over, AllOver, row-over, the-two, both-over, b-last, upA}
 
 -- With t = (a,u,v,w) an even arrangement of a's row, b's row is (u,v,w,b).

@@ -92,7 +92,8 @@ module _ (block out : List ℕ) (e f : ℕ) where
   edge-blocked answer n i j =
       let d = answer-refused (firstRefusal (blockTests block out)) n (sym i ∙ j) in
       let h : edgeAnswer block out e f ≡ firstRefusal (blockTests block out) =
-      ap firstRefusal (append-assoc (blockTests block out) edge length-test) ∙ front-refuses (blockTests block out) (edge ++ length-test) d in
+      ap firstRefusal (append-assoc (blockTests block out) edge length-test)
+      ∙ front-refuses (blockTests block out) (edge ++ length-test) d in
       rw (i, h, ne-eqb (firstRefusal (blockTests block out)) 0 d)
 
   module _ (answer : Answer) (i : answer ≡ blocks) (j : answer ≡ Done) where
@@ -103,7 +104,8 @@ module _ (block out : List ℕ) (e f : ℕ) where
     edge-opens = block-passed block out passed-blocks .0
 
     -- 9 to 13 are left
-    edge-left : edgeAnswer block out e f ≡ firstRefusal ((9, numbersWrong (length (siteOf (fieldsOf block) e f .points)) (e ∷ f ∷ [])) ∷ ringTests (siteOf (fieldsOf block) e f))
+    edge-left : edgeAnswer block out e f ≡ firstRefusal
+        ((9, numbersWrong (length (siteOf (fieldsOf block) e f .points)) (e ∷ f ∷ [])) ∷ ringTests (siteOf (fieldsOf block) e f))
     unfolding edgeAnswer edgeTests ringTests
     edge-left =
         ap firstRefusal (append-assoc (blockTests block out) edge length-test)

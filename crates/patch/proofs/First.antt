@@ -44,7 +44,10 @@ pub gives-done : (block out : List ℕ) (e f : ℕ) → removeAnswer block out e
     → let patch = fieldsOf block in
     let site = siteOf patch e f in
     removeGives block out e f
-    ≡ record { removal = Done (pageRow (shown (worstOfPatch patch)) (shown (worstOfPatch (patchAfter site)))); ring = ringWith (site .ring) }
+    ≡ record {
+      removal = Done (pageRow (shown (worstOfPatch patch)) (shown (worstOfPatch (patchAfter site))));
+      ring = ringWith (site .ring);
+    }
 unfolding removeGives
 gives-done block out e f h = rw (h, removeGives)
 

@@ -11,7 +11,7 @@ use Rattle.lists.specs.Lists.{every, different}
 use Rattle.lists.proofs.Tests.{and-l, is-yes}
 use Rattle.lists.proofs.Lists.{every-at, those-split}
 use Rattle.mesh.specs.declared.Row.{Row}
-use Rattle.mesh.specs.Mesh.{rowSize, rowBytes, rowsIn, keepsMeshRule}
+use Rattle.mesh.specs.Mesh.{rowSize, rowBytes, rowsIn, withRows, keepsMeshRule}
 use Rattle.mesh.proofs.Tables.{rows-length}
 use Rattle.block.specs.declared.Answer.{Answer}
 use Rattle.block.specs.declared.Answer.the-variants.{Done, Refused}
@@ -19,7 +19,7 @@ use Rattle.block.specs.Layout.{Patch, blockBytes, maxRows, pointCount, rowCount
 use Rattle.block.specs.Answers.{firstRefusal, answerOf, openAnswer}
 use Rattle.block.proofs.Refusals.{answer-done, answer-refused}
 use Rattle.block.proofs.Written.{points-counted}
-use Rattle.output.specs.Output.{stays, staying, pasted, tableBytes, tableWith, patchWith, Ready}
+use Rattle.output.specs.Output.{stays, staying, tableBytes, tableWith, patchWith, Ready}
 use Rattle.output.proofs.Staying.{face-staying}
 use Rattle.output.proofs.Tables.{table-read, table-front, table-append}
 use Rattle.output.proofs.Written.{table-ready}
@@ -50,7 +50,8 @@ unfolding flip23Bytes
 flip-done block out after x y z e w = (rw e, rw e w)
 
 -- no more rows are kept than there are
-pub few-kept : (block : List ℕ) (x y z : ℕ) → openAnswer block ≡ 0 → length (staying x y z (rowsIn (tableOf block) (rowCount block))) ≤ maxRows
+pub few-kept : (block : List ℕ) (x y z : ℕ) → openAnswer block ≡ 0
+    → length (staying x y z (rowsIn (tableOf block) (rowCount block))) ≤ maxRows
 few-kept block x y z opens =
     let rows = rowsIn (tableOf block) (rowCount block) in
     omega (arith, those-split (stays x y z) rows, rows-length (tableOf block) (rowCount block), few-rows block opens)
@@ -100,7 +101,8 @@ module _ (block out : List ℕ) (x y z : ℕ) (given : Given block out x y z) (f
       -- 18: both apexes are one point
       pub is-18 : found .a ≡ found .b → Said block out x y z (Refused 18) out
       unfolding flip23Tests firstRefusal
-      is-18 a = flip-refused block out x y z 17 (answer ∙ rw (given .numbers, none-10, none-11, eq-eqb (pair .a) (pair .b) (sym (ap (λ s. s .a) pair-is) ∙ (a ∙ ap (λ s. s .b) pair-is))))
+      is-18 a = flip-refused block out x y z 17 (answer
+          ∙ rw (given .numbers, none-10, none-11, eq-eqb (pair .a) (pair .b) (sym (ap (λ s. s .a) pair-is) ∙ (a ∙ ap (λ s. s .b) pair-is))))
 
       module _ (a18 : found .a ≡ found .b → ⊥) (k : ℕ) (kept : List ℕ) (k-is : k ≡ length (staying x y z rows))
           (kept-is : kept ≡ flatMap rowBytes (staying x y z rows) ++ drop (rowSize * k) (replicate tableBytes 0)) where
@@ -148,19 +150,22 @@ module _ (block out : List ℕ) (x y z : ℕ) (given : Given block out x y z) (f
             flip-refused block out x y z 13 (answer ∙ rw (given .numbers, none-10, none-11, none-18, rows-after, over))
 
         module _ (a14 : k + 3 ≤ maxRows) (v : ℕ) (v-is : v ≡ u) (table : List ℕ)
-            (table-is : table ≡ pasted kept (rowSize * k) (flatMap rowBytes (threeFrom v))) where
+            (table-is : table ≡ withRows kept k (threeFrom v)) where
           table-after : table ≡ tableWith after
           table-after =
-              let front : kept ≡ tableWith (staying x y z rows) = kept-is ∙ (ap (λ n. flatMap rowBytes (staying x y z rows) ++ drop (rowSize * n) (replicate tableBytes 0)) k-is ∙ table-front (staying x y z rows)) in
-              table-is ∙ (ap (λ v. pasted kept (rowSize * k) (flatMap rowBytes (threeFrom v))) v-is ∙ (ap (λ l. pasted l (rowSize * k) (flatMap rowBytes three)) front
-              ∙ (ap (λ n. pasted (tableWith (staying x y z rows)) (rowSize * n) (flatMap rowBytes three)) k-is ∙ table-append (staying x y z rows) three)))
+              let front : kept ≡ tableWith (staying x y z rows) = kept-is
+              ∙ (ap (λ n. flatMap rowBytes (staying x y z rows) ++ drop (rowSize * n) (replicate tableBytes 0)) k-is
+              ∙ table-front (staying x y z rows)) in
+              table-is ∙ (ap (λ v. withRows kept k (threeFrom v)) v-is ∙ (ap (λ l. withRows l k three) front
+              ∙ (ap (λ n. withRows (tableWith (staying x y z rows)) n three) k-is ∙ table-append (staying x y z rows) three)))
 
           read-after : rowsIn table (k + 3) ≡ after
           read-after = ap (λ l. rowsIn l (k + 3)) table-after ∙ (ap (λ n. rowsIn (tableWith after) n) size-after ∙ table-read after)
 
           -- the table may be written
           pub after-ready : Ready block table (k + 3) out
-          after-ready = rw (table-after, size-after) (table-ready block out after (given .opens) (given .output) (omega (arith, size-after)))
+          after-ready = rw (table-after, size-after)
+              (table-ready block out after (given .opens) (given .output) (omega (arith, size-after)))
 
           module _ (test : Bool) (test-is : test ≡ keepsMeshRule (pointCount block) (rowsIn table (k + 3))) where
             test-after : keepsMeshRule (length (patch .points)) after ≡ test
@@ -172,19 +177,24 @@ module _ (block out : List ℕ) (x y z : ℕ) (given : Given block out x y z) (f
             -- 15: the table afterwards would break the mesh rule
             pub is-15 : test ≡ false → Said block out x y z (Refused 15) out
             unfolding flip23Tests firstRefusal
-            is-15 a = flip-refused block out x y z 14 (answer ∙ rw (given .numbers, none-10, none-11, none-18, rows-after, few, test-after ∙ a))
+            is-15 a = flip-refused block out x y z 14 (answer
+                ∙ rw (given .numbers, none-10, none-11, none-18, rows-after, few, test-after ∙ a))
 
             -- done
-            pub is-0 : test ≡ true → (written : List ℕ) → written ≡ bytesOf (patchWith (patch .points) (rowsIn table (k + 3))) → Said block out x y z Done written
+            pub is-0 : test ≡ true → (written : List ℕ) → written ≡ bytesOf (patchWith (patch .points) (rowsIn table (k + 3)))
+                → Said block out x y z Done written
             unfolding flip23Tests firstRefusal
             is-0 a written w =
-                let zero-is : flip23Answer block out x y z ≡ 0 = answer ∙ rw (given .numbers, none-10, none-11, none-18, rows-after, few, test-after ∙ a) in
-                flip-done block out written x y z zero-is (w ∙ (ap (λ l. bytesOf (patchWith (patch .points) l)) (read-after ∙ sym rows-after) ∙ ap bytesOf patch-whole))
+                let zero-is : flip23Answer block out x y z ≡ 0 = answer
+                ∙ rw (given .numbers, none-10, none-11, none-18, rows-after, few, test-after ∙ a) in
+                flip-done block out written x y z zero-is (w
+                ∙ (ap (λ l. bytesOf (patchWith (patch .points) l)) (read-after ∙ sym rows-after) ∙ ap bytesOf patch-whole))
 
 -- ---- in front of the face's rows
 
 -- answers 1 to 8
-pub is-refused : (block out : List ℕ) (x y z : ℕ) (answer : Answer) (n : ℕ) → answer ≡ answerOf (firstRefusal (blockTests block out)) → answer ≡ Refused n
+pub is-refused : (block out : List ℕ) (x y z : ℕ) (answer : Answer) (n : ℕ)
+    → answer ≡ answerOf (firstRefusal (blockTests block out)) → answer ≡ Refused n
     → Said block out x y z answer out
 unfolding flip23Answer flip23Bytes
 is-refused block out x y z answer n e d =

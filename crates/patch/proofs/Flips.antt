@@ -2,7 +2,8 @@
 -- the one number that the face has not, and a's row, evenly rearranged, gives the same v and w.
 use Prim.Native.Nat.{ℕ}
 use mathlib.Core.Bool.{Bool, true, false, cond, not}
-use mathlib.Core.List.{List, [], _∷_, _++_, map, List·Memᴰ, List·Memᴰ·head, List·Memᴰ·tail, List·Memᴰ·not-nil, Memᴰ·map, Memᴰ·of-map, map-append}
+use mathlib.Core.List.{List, [], _∷_, _++_, map, List·Memᴰ, List·Memᴰ·head, List·Memᴰ·tail, List·Memᴰ·not-nil, Memᴰ·map, Memᴰ·of-map}
+use mathlib.Core.List.{map-append}
 use mathlib.Core.Logic.{_⊎_, inl, inr}
 use mathlib.Core.Path.{_≡_, refl, sym, ap, _∙_, subst}
 use native.Mathlib.Omega.{arith}
@@ -10,12 +11,12 @@ use borrow.Author.Tests.{eqb-false}
 use lib.Dec.{T, eqb, ltb}
 use lib.ListN.{length, length-append}
 use Rattle.lists.specs.Lists.{different}
-use Rattle.lists.proofs.Numbers.{has-i, has-e}
+use Rattle.lists.proofs.Numbers.{has-i, has-e, most-same}
 use Rattle.lists.proofs.Lists.{every-same}
 use Rattle.lists.proofs.Places.{in-cases}
 use Rattle.measure.specs.declared.Point.{Point}
 use Rattle.mesh.specs.declared.Row.{Row}
-use Rattle.mesh.specs.Mesh.{numbers, holds, keepsMeshRule}
+use Rattle.mesh.specs.Mesh.{numbers, holds, holdsFace, keepsMeshRule}
 use Rattle.mesh.specs.Tetrahedra.{rearranged, SameTetrahedra}
 use Rattle.mesh.proofs.Alike.{same-keeps, same-append}
 use Rattle.mesh.proofs.Evenly.{even-holds, even-proper}
@@ -26,11 +27,11 @@ use Rattle.block.specs.Answers.{Tests, firstRefusal, notBlock}
 use Rattle.block.proofs.Refusals.{passed, refuses}
 use Rattle.ring.specs.Ring.{Link, link, numbersWrong}
 use Rattle.ring.proofs.Linking.{link-is}
+use Rattle.ring.proofs.Rounding.{smallest-same}
 use Rattle.ring.proofs.Order.{row-across}
 use Rattle.pieces.proofs.Across.{those-across, length-across}
-use Rattle.patch.specs.Flipping.{holdsFace, apexOver, Pair, pairOf, threeRows, patchAfter23, flip23Tests, flip23Answer}
+use Rattle.patch.specs.Flipping.{apexOver, Pair, pairOf, threeRows, patchAfter23, flip23Tests, flip23Answer}
 use Rattle.patch.specs.Demands.{SameMesh, AnyRowOrder23}
-use Rattle.patch.proofs.Lists.{most-same, least-same}
 use Rattle.patch.proofs.Answering.{same-behind, block-opened, flips-23}
 use Rattle.patch.proofs.Sites.{opens-rule}
 use Rattle.patch.proofs.Pairs.{Over}
@@ -84,7 +85,8 @@ module _ (block other : List ℕ) (x y z : ℕ) (same : SameMesh block other) wh
   wrong-same = ap (λ (points : List Point). numbersWrong (length points) face) (same .points)
 
   -- the same apexes
-  apexes-to : T (different face) → (n : ℕ) → List·Memᴰ n (map (apexOver face) (left .removed)) → List·Memᴰ n (map (apexOver face) (right .removed))
+  apexes-to : T (different face) → (n : ℕ) → List·Memᴰ n (map (apexOver face) (left .removed))
+      → List·Memᴰ n (map (apexOver face) (right .removed))
   unfolding pairOf
   apexes-to apart n k =
       let (row, i, e) = Memᴰ·of-map (apexOver face) (left .removed) k in
@@ -109,7 +111,7 @@ module _ (block other : List ℕ) (x y z : ℕ) (same : SameMesh block other) wh
     a-same : here .a ≡ there .a
     unfolding pairOf
     a-same =
-        least-same (map (apexOver list) (here .removed)) (map (apexOver list) (there .removed))
+        smallest-same (map (apexOver list) (here .removed)) (map (apexOver list) (there .removed))
         (apexes-to block other x y z same apart) (apexes-to other block x y z (other-way same) apart)
 
     b-same : here .b ≡ there .b
@@ -206,7 +208,8 @@ module _ (block other : List ℕ) (x y z : ℕ) (same : SameMesh block other) wh
   -- 9 to 18
   abbrev before14 : ℕ → Pair → Tests
   before14 count pair =
-      (9, numbersWrong count list) ∷ (10, eqb (length (pair .removed)) 0) ∷ (11, eqb (length (pair .removed)) 1) ∷ (18, eqb (pair .a) (pair .b)) ∷ []
+      (9, numbersWrong count list) ∷ (10, eqb (length (pair .removed)) 0) ∷ (11, eqb (length (pair .removed)) 1)
+      ∷ (18, eqb (pair .a) (pair .b)) ∷ []
 
   before-same : T (different list) → before14 (length (fieldsOf block .points)) here ≡ before14 (length (fieldsOf other .points)) there
   before-same apart =

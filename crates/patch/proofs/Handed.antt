@@ -34,7 +34,8 @@ module _ (block : List ℕ) where
   byAnswer : ℕ → Summarised
   byAnswer n = elim n [ zero ↦ Summarises.Summary (summaryOf (fieldsOf block)) | suc n ↦ Summarises.Refused (suc n) ]
 
-  pub summed-refused : (k : ℕ) (answer : Answer) → answer ≡ answerOf (openAnswer block) → answer ≡ Refused k → Summarises.Refused k ≡ summaryGives block
+  pub summed-refused : (k : ℕ) (answer : Answer) → answer ≡ answerOf (openAnswer block) → answer ≡ Refused k
+      → Summarises.Refused k ≡ summaryGives block
   unfolding summaryGives byAnswer
   summed-refused k answer e d =
       let n = number-handed (openAnswer block) k (sym e ∙ d) in

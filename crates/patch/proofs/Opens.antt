@@ -11,7 +11,8 @@ use Rattle.lists.proofs.Lists.{every-none}
 use Rattle.measure.specs.Measure.{maxCoordinate, pointBytes}
 use Rattle.mesh.specs.Mesh.{rowsIn, keepsMeshRule}
 use Rattle.mesh.proofs.Rule.{keeps-fits}
-use Rattle.block.specs.Layout.{blockBytes, bodyBytes, maxPoints, maxRows, pointsAt, rowsAt, pointCount, rowCount, coordinatesOf, tableOf, fieldsOf}
+use Rattle.block.specs.Layout.{blockBytes, bodyBytes, maxPoints, maxRows, pointsAt, rowsAt, pointCount, rowCount, coordinatesOf, tableOf}
+use Rattle.block.specs.Layout.{fieldsOf}
 use Rattle.block.specs.Answers.{coordinateOver, openAnswer}
 use Rattle.block.specs.Within.{onGrid, RightBlock}
 use Rattle.block.proofs.Parts.{part-length}
@@ -45,7 +46,8 @@ module _ (block : List ℕ) (opens : openAnswer block ≡ 0) where
   none-over : coordinateOver (fieldsOf block) ≡ false
   unfolding coordinateOver
   none-over =
-      every-none (ltb maxCoordinate) onGrid (λ x k. le-ltb maxCoordinate x (leb→le x maxCoordinate k)) (flatMap pointBytes (fieldsOf block .points))
+      every-none (ltb maxCoordinate) onGrid (λ x k. le-ltb maxCoordinate x (leb→le x maxCoordinate k))
+      (flatMap pointBytes (fieldsOf block .points))
       (right .body .coordinates)
 
   pub opens-measured : Measured (coordinatesOf block) (pointCount block) (tableOf block) (rowCount block)

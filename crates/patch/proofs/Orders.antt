@@ -12,13 +12,14 @@ use Rattle.lists.proofs.Lists.{every-at, every-i}
 use Rattle.lists.proofs.Numbers.{has-i, has-e, different-head, different-tail, different-i}
 use Rattle.lists.proofs.Places.{in-cases}
 use Rattle.mesh.specs.declared.Row.{Row}
-use Rattle.mesh.specs.Mesh.{numbers, holds, noRow}
+use Rattle.mesh.specs.Mesh.{numbers, holds, holdsFace, noRow}
 use Rattle.block.specs.Layout.{Patch, fieldsOf}
 use Rattle.ring.specs.Ring.{Site, siteOf, smallest, numbersWrong, edgeTests}
 use Rattle.ring.proofs.Order.{site-swap, numbers-swap}
 use Rattle.ring.proofs.Rounding.{smallest-in, smallest-le, smallest-is}
 use Rattle.patch.specs.Removing.{removeAnswer, removeBytes, removeGives}
-use Rattle.patch.specs.Flipping.{flip32Answer, flip32Bytes, holdsFace, apexOver, Pair, pairOf, threeRows, patchAfter23, flip23Tests, flip23Answer, flip23Bytes}
+use Rattle.patch.specs.Flipping.{flip32Answer, flip32Bytes, apexOver, Pair, pairOf, threeRows, patchAfter23, flip23Tests}
+use Rattle.patch.specs.Flipping.{flip23Answer, flip23Bytes}
 use Rattle.patch.specs.Demands.{EitherOrder}
 use Rattle.patch.proofs.First.{gives-done, gives-refused}
 
@@ -155,8 +156,7 @@ turned x y z =
     record {
       to = move x y z;
       from = λ n k. move z x y n (move y z x n k);
-      apart =
-          same-test (different (x ∷ y ∷ z ∷ [])) (different (y ∷ z ∷ x ∷ [])) (apart x y z) (λ h. apart z x y (apart y z x h));
+      apart = same-test (different (x ∷ y ∷ z ∷ [])) (different (y ∷ z ∷ x ∷ [])) (apart x y z) (λ h. apart z x y (apart y z x h));
       some = omega arith;
     }
   where
@@ -166,7 +166,8 @@ turned x y z =
         λ k. in-cases k (λ e. List·Memᴰ·head e) λ k. in-cases k (λ e. List·Memᴰ·tail (List·Memᴰ·head e)) λ k. absurd (List·Memᴰ·not-nil k)
 
     apart : (x y z : ℕ) → T (different (x ∷ y ∷ z ∷ [])) → T (different (y ∷ z ∷ x ∷ []))
-    apart x y z h = let k = three-apart x y z h in apart-three y z x (record { xy = k .yz; xz = λ e. k .xy (sym e); yz = λ e. k .xz (sym e) })
+    apart x y z h = let k = three-apart x y z h in
+        apart-three y z x (record { xy = k .yz; xz = λ e. k .xy (sym e); yz = λ e. k .xz (sym e) })
 
 module _ (block out : List ℕ) (x y z : ℕ) where
   flip23-answer-swap : flip23Answer block out x y z ≡ flip23Answer block out y x z

@@ -13,7 +13,7 @@ use Rattle.measure.specs.declared.PageRow.{PageRow}
 use Rattle.measure.specs.declared.Quality.{Quality}
 use Rattle.measure.specs.Page.{shown, pageRow}
 use Rattle.mesh.specs.declared.Row.{Row}
-use Rattle.mesh.specs.Mesh.{rowsIn}
+use Rattle.mesh.specs.Mesh.{rowsIn, holdsEdge}
 use Rattle.block.specs.declared.Answer.the-variants as Answer
 use Rattle.block.specs.Layout.{blockBytes, maxRows, pointCount, rowCount, coordinatesOf, tableOf, fieldsOf, bytesOf}
 use Rattle.block.specs.Answers.{openAnswer, answerOf}
@@ -23,7 +23,7 @@ use Rattle.tally.specs.Measured.{patchIn}
 use Rattle.tally.specs.Summing.{worstOfPatch}
 use Rattle.ring.specs.declared.Ring.{Ring}
 use Rattle.ring.specs.declared.Found.{Found}
-use Rattle.ring.specs.Ring.{Site, siteOf, m, minRing, maxRing, holdsEdge, lengthWrong, ringWith}
+use Rattle.ring.specs.Ring.{Site, siteOf, m, minRing, maxRing, lengthWrong, ringWith}
 use Rattle.pieces.specs.Triangulation.{tableAfter, rowsAfter}
 use Rattle.pieces.specs.Best.{chosen}
 use Rattle.pieces.specs.declared.Best.the-variants.{Mark, Worst}
@@ -39,24 +39,28 @@ use Rattle.patch.specs.declared.planning.Plan.{Plan}
 use Rattle.patch.specs.declared.removing.Outcome.{Outcome}
 use Rattle.patch.specs.Removing.{noWay, patchAfter, removeAnswer, removeBytes, removeGives, Sound}
 use Rattle.patch.specs.Flipping.{flip32Answer, flip32Bytes}
-use Rattle.patch.specs.Steps.{edgeFound, Ringed, Carries, rowsWith, planWith, planOf, planAnswer, noPlan, noOutcome, outcomeOf, flipOf}
+use Rattle.patch.specs.Steps.{edgeFound, Ringed, Carries, rowsWith, planWith, planOf, planAnswer, noPlan, noOutcome, outcomeOf}
+use Rattle.patch.specs.Steps.{flipOf}
 use Rattle.patch.proofs.Answering.{removes, flips-32}
 use Rattle.patch.proofs.Sites.{sound-site, site-length}
 use Rattle.patch.proofs.Deciding.{chosen-rows}
 use Rattle.patch.proofs.Decided.{plan-passes, plan-rows, plan-after, marked, unmarked}
 use Rattle.patch.proofs.Handed.{Number, handed-done}
 use Rattle.patch.proofs.Opens.{few-rows}
-use Rattle.patch.proofs.Ringing.{found-refused, remove-refused, flip-refused, remove-rest, flip-13, flip-15, flip-0, own-site, own-ring, ringed}
+use Rattle.patch.proofs.Ringing.{found-refused, remove-refused, flip-refused, remove-rest, flip-13, flip-15, flip-0, own-site}
+use Rattle.patch.proofs.Ringing.{own-ring, ringed}
 
 -- ---- what is written
 
 -- the rows in a scratch table are written as the patch with them
-module _ (block out : List ℕ) (rows : List Row) (opens : openAnswer block ≡ 0) (size : length out ≡ blockBytes) (few : length rows ≤ maxRows)
+module _ (block out : List ℕ) (rows : List Row) (opens : openAnswer block ≡ 0) (size : length out ≡ blockBytes)
+    (few : length rows ≤ maxRows)
     (scratch : Rows) (scratch-is : scratch ≡ rowsWith rows) where
   write-ready : Ready block (scratch .table) (scratch .n) out
   write-ready = subst (λ (r : Rows). Ready block (r .table) (r .n) out) (sym scratch-is) (table-ready block out rows opens size few)
 
-  write-rows : bytesOf (patchWith (fieldsOf block .points) (rowsIn (scratch .table) (scratch .n))) ≡ bytesOf (patchWith (fieldsOf block .points) rows)
+  write-rows : bytesOf (patchWith (fieldsOf block .points) (rowsIn (scratch .table) (scratch .n)))
+      ≡ bytesOf (patchWith (fieldsOf block .points) rows)
   write-rows =
       ap (λ (rs : List Row). bytesOf (patchWith (fieldsOf block .points) rs))
       (ap (λ (r : Rows). rowsIn (r .table) (r .n)) scratch-is ∙ table-read rows)
@@ -83,7 +87,13 @@ module _ (block out : List ℕ) (e f : ℕ) where
   three-rows : Sound block e f → m site ≡ minRing → rowsAfter site ≤ maxRows
   unfolding siteOf
   three-rows sound three =
-      omega (arith, site-length block e f sound, those-split (holdsEdge (min e f) (max e f)) (fieldsOf block .rows), rows-counted block, few-rows block (sound .opens))
+      omega (
+        arith,
+        site-length block e f sound,
+        those-split (holdsEdge (min e f) (max e f)) (fieldsOf block .rows),
+        rows-counted block,
+        few-rows block (sound .opens),
+      )
 
   -- what a removal gives by its answer
   gives : ℕ → Removed
@@ -116,12 +126,14 @@ module _ (block out : List ℕ) (e f : ℕ) where
       ap noOutcome (k .handed) ∙ own ∙ ap outcome (sym (k .answer)) ∙ sym by-answer
 
   -- answers 1 to 13
-  pub edge-refuses : (found : Found) → found ≡ edgeFound block out e f → (n : ℕ) → found .answer ≡ Answer.Refused n → noOutcome n ≡ outcomeOf block out e f
+  pub edge-refuses : (found : Found) → found ≡ edgeFound block out e f → (n : ℕ) → found .answer ≡ Answer.Refused n
+      → noOutcome n ≡ outcomeOf block out e f
   edge-refuses found i n h =
       let k = found-refused block out e f found i n h in
       refused-outcome n (record { less = k .less; answer = remove-refused block out e f (k .less) (k .answer); handed = k .handed })
 
-  module _ (found : Found) (i : found ≡ edgeFound block out e f) (h : found .answer ≡ Answer.Done) (a b : ℕ) (p : a ≡ min e f) (q : b ≡ max e f) where
+  module _ (found : Found) (i : found ≡ edgeFound block out e f) (h : found .answer ≡ Answer.Done) (a b : ℕ)
+      (p : a ≡ min e f) (q : b ≡ max e f) where
     abbrev its : Site
     its = siteIn (coordinatesOf block) (pointCount block) (tableOf block) (rowCount block) a b
 
@@ -129,11 +141,13 @@ module _ (block out : List ℕ) (e f : ℕ) where
     its-site = own-site block out e f found i h a b p q
 
     -- 14 to 17
-    plan-answer : planAnswer (patchIn (coordinatesOf block) (pointCount block) (tableOf block) (rowCount block)) its ≡ removeAnswer block out e f
+    plan-answer : planAnswer (patchIn (coordinatesOf block) (pointCount block) (tableOf block) (rowCount block)) its
+        ≡ removeAnswer block out e f
     unfolding fieldsOf
     plan-answer = ap (planAnswer (fieldsOf block)) its-site ∙ sym (remove-rest block out e f found i h)
 
-    pub plan-refuses : (n : ℕ) → Number (planAnswer (patchIn (coordinatesOf block) (pointCount block) (tableOf block) (rowCount block)) its) n
+    pub plan-refuses : (n : ℕ)
+        → Number (planAnswer (patchIn (coordinatesOf block) (pointCount block) (tableOf block) (rowCount block)) its) n
         → noOutcome n ≡ outcomeOf block out e f
     plan-refuses n k = refused-outcome n (record { less = k .less; answer = sym plan-answer ∙ k .answer; handed = k .handed })
 
@@ -159,13 +173,15 @@ module _ (block out : List ℕ) (e f : ℕ) where
       own-page =
           row-is
           ∙ ap (λ patch. pageRow (shown (worstOfPatch (fieldsOf block))) (shown (worstOfPatch patch)))
-          (plan-after (coordinatesOf block) (pointCount block) (tableOf block) (rowCount block) a b given-ring planned j k ∙ ap patchAfter its-site)
+          (plan-after (coordinatesOf block) (pointCount block) (tableOf block) (rowCount block) a b given-ring planned j k
+          ∙ ap patchAfter its-site)
 
       pub done-outcome : _≡_ {A = Outcome} (record { removed = record { removal = Done row; ring = found .ring }; rows = planned .rows })
           (outcomeOf block out e f)
       unfolding gives outcome
       done-outcome =
-          let own : _≡_ {A = Outcome} (record { removed = record { removal = Done row; ring = found .ring }; rows = planned .rows }) (outcome 0) =
+          let own : _≡_ {A = Outcome} (record { removed = record { removal = Done row; ring = found .ring }; rows = planned .rows })
+          (outcome 0) =
           rw (own-page, own-ring block out e f found i h, own-rows) in
           own ∙ ap outcome (sym zero-answer) ∙ sym by-answer
 
@@ -202,7 +218,8 @@ module _ (block out : List ℕ) (e f : ℕ) where
           let r = removes block out e f removes-0 in
           write-ready block out after (r .sound .opens) (r .size) removes-few (given .rows) removes-rows
 
-      pub remove-writes : (written : List ℕ) → written ≡ bytesOf (patchWith (fieldsOf block .points) (rowsIn (given .rows .table) (given .rows .n)))
+      pub remove-writes : (written : List ℕ)
+          → written ≡ bytesOf (patchWith (fieldsOf block .points) (rowsIn (given .rows .table) (given .rows .n)))
           → written ≡ removeBytes block out e f
       unfolding removeBytes patchAfter siteOf
       remove-writes written w =
@@ -220,7 +237,8 @@ module _ (block out : List ℕ) (e f : ℕ) where
       → noPlan (found .answer) ≡ flipOf block out e f
   edge-refuses-flip found i n h =
       let k = found-refused block out e f found i n h in
-      ap noPlan h ∙ refused-plan n (record { less = k .less; answer = flip-refused block out e f (k .less) (k .answer); handed = k .handed })
+      ap noPlan h ∙ refused-plan n
+      (record { less = k .less; answer = flip-refused block out e f (k .less) (k .answer); handed = k .handed })
 
   module _ (found : Found) (i : found ≡ edgeFound block out e f) (h : found .answer ≡ Answer.Done) where
     ring-length : found .ring .m ≡ m site
@@ -242,14 +260,17 @@ module _ (block out : List ℕ) (e f : ℕ) where
       module _ (way : Carried) (carries : Carries those-rows way) where
         pub no-way : way .best ≡ Mark → noPlan (Answer.Refused 15) ≡ flipOf block out e f
         no-way e15 =
-            let none = marked (coordinatesOf block) (pointCount block) (tableOf block) (rowCount block) a b (ringed block out e f found i h a b p q) way carries e15 in
+            let none = marked (coordinatesOf block) (pointCount block) (tableOf block) (rowCount block) a b
+            (ringed block out e f found i h a b p q) way carries e15 in
             let own = subst (λ (s : Site). noWay s ≡ true) those-site none in
             refused-plan 15 (record { less = 14; answer = flip-15 block out e f found i h three-points own; handed = refl })
 
-        pub flip-done : (best : Quality) → way .best ≡ Worst best → _≡_ {A = Plan} (record { answer = found .answer; rows = way .rows }) (flipOf block out e f)
+        pub flip-done : (best : Quality) → way .best ≡ Worst best
+            → _≡_ {A = Plan} (record { answer = found .answer; rows = way .rows }) (flipOf block out e f)
         unfolding planWith
         flip-done best is =
-            let some-way = unmarked (coordinatesOf block) (pointCount block) (tableOf block) (rowCount block) a b (ringed block out e f found i h a b p q) way carries best is in
+            let some-way = unmarked (coordinatesOf block) (pointCount block) (tableOf block) (rowCount block) a b
+            (ringed block out e f found i h a b p q) way carries best is in
             let own = subst (λ (s : Site). noWay s ≡ false) those-site some-way in
             let rows : way .rows ≡ rowsWith after = carries .rows ∙ ap (λ (s : Site). rowsWith (tableAfter s (chosen s))) those-site in
             rw (h, rows, flip-0 block out e f found i h three-points own)
@@ -276,14 +297,19 @@ module _ (block out : List ℕ) (e f : ℕ) where
       flips-few : length after ≤ maxRows
       flips-few =
           let r = flips-32 block out e f flips-0 in
-          omega (arith, chosen-rows site (sound-site block e f (r .sound)) (omega (arith, r .three)) (r .way), three-rows (r .sound) (r .three))
+          omega (
+            arith,
+            chosen-rows site (sound-site block e f (r .sound)) (omega (arith, r .three)) (r .way),
+            three-rows (r .sound) (r .three),
+          )
 
       pub flip-ready : Ready block (planned .rows .table) (planned .rows .n) out
       flip-ready =
           let r = flips-32 block out e f flips-0 in
           write-ready block out after (r .sound .opens) (r .size) flips-few (planned .rows) flips-rows
 
-      pub flip-writes : (written : List ℕ) → written ≡ bytesOf (patchWith (fieldsOf block .points) (rowsIn (planned .rows .table) (planned .rows .n)))
+      pub flip-writes : (written : List ℕ)
+          → written ≡ bytesOf (patchWith (fieldsOf block .points) (rowsIn (planned .rows .table) (planned .rows .n)))
           → written ≡ flip32Bytes block out e f
       unfolding flip32Bytes patchAfter siteOf
       flip-writes written w =

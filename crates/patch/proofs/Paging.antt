@@ -26,8 +26,10 @@ module _ (coordinates : List ℕ) (count : ℕ) (table : List ℕ) (n : ℕ) (me
       let at = place (patch .points) in
       let in-grid = place-within patch (measured .on-grid) in
       record {
-        num-small = num-below-53 (at (row .p)) (at (row .q)) (at (row .r)) (at (row .s)) (in-grid (row .p)) (in-grid (row .q)) (in-grid (row .r)) (in-grid (row .s));
-        den-small = den-below-53 (at (row .p)) (at (row .q)) (at (row .r)) (at (row .s)) (in-grid (row .p)) (in-grid (row .q)) (in-grid (row .r)) (in-grid (row .s));
+        num-small = num-below-53 (at (row .p)) (at (row .q)) (at (row .r)) (at (row .s)) (in-grid (row .p)) (in-grid (row .q))
+            (in-grid (row .r)) (in-grid (row .s));
+        den-small = den-below-53 (at (row .p)) (at (row .q)) (at (row .r)) (at (row .s)) (in-grid (row .p)) (in-grid (row .q))
+            (in-grid (row .r)) (in-grid (row .s));
       }
 
   pub worst-carries : (q : Quality) → q ≡ worstOfPatch patch → CarriesOver q

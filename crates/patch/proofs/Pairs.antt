@@ -17,7 +17,7 @@ use Rattle.lists.proofs.Numbers.{has-i, has-e, no-more, no-fewer}
 use Rattle.lists.proofs.Counts.{ind, ind-yes}
 use Rattle.lists.proofs.Places.{at-in, in-cases}
 use Rattle.mesh.specs.declared.Row.{Row}
-use Rattle.mesh.specs.Mesh.{Face, numbers, holds, faces, uses, numbersFit, noRow, Proper}
+use Rattle.mesh.specs.Mesh.{Face, numbers, holds, holdsFace, faces, uses, numbersFit, noRow, Proper}
 use Rattle.mesh.specs.Tetrahedra.{evenly, rearranged, arrangedFrom}
 use Rattle.mesh.proofs.Faces.{stay, no-p, face-uses}
 use Rattle.mesh.proofs.Counted.{hits, hits-cons}
@@ -25,7 +25,7 @@ use Rattle.mesh.proofs.Rule.{fit-proper}
 use Rattle.mesh.proofs.Evenly.{even-i, even-uses, even-holds, even-proper, even-region}
 use Rattle.mesh.proofs.Places.{even-trans, arranged-from}
 use Rattle.ring.specs.Ring.{smallest}
-use Rattle.patch.specs.Flipping.{holdsFace, apexOver}
+use Rattle.patch.specs.Flipping.{apexOver}
 
 -- ---- one row over a face of three different numbers
 
@@ -261,7 +261,8 @@ module _ (count : ℕ) (face : List ℕ) (rows : List Row) (all : AllOver count 
           )
 
   -- b's row is (u,v,w,b)
-  pub b-last : T (rearranged (record { p = upA .q; q = upA .r; r = upA .s; s = bOf face rows; region = the-two .rowB .region }) (the-two .rowB))
+  pub b-last : T (rearranged (record { p = upA .q; q = upA .r; r = upA .s; s = bOf face rows; region = the-two .rowB .region })
+      (the-two .rowB))
   unfolding evenly
   b-last =
       let (over-a, over-b, ways) = both-over in

@@ -9,17 +9,17 @@ use lib.ListN.{length, getD, drop, replicate, length-append, drop-of-length-le}
 use lib.Seq.{drop-cons}
 use Rattle.lists.specs.Lists.{those}
 use Rattle.mesh.specs.declared.Row.{Row}
-use Rattle.mesh.specs.Mesh.{rowSize, rowIn, rowsIn, rowBytes, noRow}
+use Rattle.mesh.specs.Mesh.{rowSize, rowIn, rowsIn, rowBytes, noRow, holdsEdge, withRows}
 use Rattle.mesh.proofs.Tables.{rows-length, rows-at}
 use Rattle.block.specs.Layout.{maxRows}
 use Rattle.ring.specs.declared.Ring.{Ring}
-use Rattle.ring.specs.Ring.{Site, siteOf, m, maxRing, holdsEdge}
+use Rattle.ring.specs.Ring.{Site, siteOf, m, maxRing}
 use Rattle.pieces.specs.declared.Best.{Best}
 use Rattle.pieces.specs.declared.Pieces.{Pieces}
 use Rattle.pieces.specs.Triangulation.{newRows, tableAfter, rowsAfter, regionOf}
 use Rattle.pieces.specs.Best.{Keeps, chosen, chosenOf, cellAt}
 use Rattle.pieces.specs.Filling.{siteIn, bestOf, readBest, cells}
-use Rattle.pieces.specs.Expanding.{Between, Follows, withRows}
+use Rattle.pieces.specs.Expanding.{Between, Follows}
 use Rattle.pieces.proofs.Optimal.{read-kept, kept-between, kept-follows}
 use Rattle.output.specs.Output.{staying, tableBytes, tableWith}
 use Rattle.output.proofs.Staying.{edge-staying}
@@ -121,19 +121,23 @@ module _ (coordinates : List ℕ) (count : ℕ) (table : List ℕ) (n a b : ℕ)
 
       pub carried-out : (whole : List ℕ) (end : ℕ)
           → ((site : Site) → Follows site (pieces .apexes) (record { a = a; b = b; v = pieces .ring }) region 1 (pieces .m)
-          → (whole ≡ withRows front kept (newRows site 1 (chosenOf site 1 (pieces .m)))) × (end ≡ kept + length (newRows site 1 (chosenOf site 1 (pieces .m)))))
+          → (whole ≡ withRows front kept (newRows site 1 (chosenOf site 1 (pieces .m))))
+          × (end ≡ kept + length (newRows site 1 (chosenOf site 1 (pieces .m)))))
           → _≡_ {A = Rows} (record { n = end; table = whole }) (rowsWith (tableAfter its (chosen its)))
       unfolding tableAfter
       carried-out whole end f =
-          let own : Follows its (pieces .apexes) (record { a = a; b = b; v = pieces .ring }) region 1 (pieces .m) = rw (keeps .length) follows in
+          let own : Follows its (pieces .apexes) (record { a = a; b = b; v = pieces .ring }) region 1 (pieces .m) =
+          rw (keeps .length) follows in
           let (w, n) = f its own in
           let rows = newRows its 1 (chosen its) in
           let number : end ≡ length (its .kept ++ rows) = rw (keeps .length) at n ∙ rw kept-own (sym (length-append (its .kept) rows)) in
-          let bytes : whole ≡ tableWith (its .kept ++ rows) = rw (keeps .length, front-own, kept-own) at w ∙ table-append (its .kept) rows in
+          let bytes : whole ≡ tableWith (its .kept ++ rows) = rw (keeps .length, front-own, kept-own) at w
+          ∙ table-append (its .kept) rows in
           rw (number, bytes)
 
   -- what is read for the whole ring is its best worst
-  pub carries : (best : Best) (at : ℕ) → at ≡ cellAt 1 (pieces .m) → bestOf best ≡ readBest (getD (pieces .kinds) at 0) (getD (pieces .nums) at 0) (getD (pieces .dens) at 0)
+  pub carries : (best : Best) (at : ℕ) → at ≡ cellAt 1 (pieces .m)
+      → bestOf best ≡ readBest (getD (pieces .kinds) at 0) (getD (pieces .nums) at 0) (getD (pieces .dens) at 0)
       → (rows : Rows) → rows ≡ rowsWith (tableAfter its (chosen its)) → Carries its (record { best = best; rows = rows })
   carries best at e r rows w =
       let long : 1 + 2 ≤ m its = omega (arith, given .ready .long) in

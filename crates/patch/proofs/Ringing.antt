@@ -55,12 +55,14 @@ module _ (block out : List ℕ) (e f : ℕ) where
   pub flip-refused : (k : ℕ) → edgeAnswer block out e f ≡ suc k → flip32Answer block out e f ≡ suc k
   unfolding edgeAnswer flip32Answer flip32Tests
   flip-refused k h =
-      refusal-stands (blockTests block out ++ edgeTests site e f) 13 k (lengthWrong site) (not (eqb (m site) minRing)) _ (λ q. ap not (wrong-not-three site q)) h
+      refusal-stands (blockTests block out ++ edgeTests site e f) 13 k (lengthWrong site) (not (eqb (m site) minRing)) _
+      (λ q. ap not (wrong-not-three site q)) h
 
   -- ---- what is found
 
   -- a refusal has the edge's number
-  pub found-refused : (found : Found) → found ≡ edgeFound block out e f → (n : ℕ) → found .answer ≡ Refused n → Number (edgeAnswer block out e f) n
+  pub found-refused : (found : Found) → found ≡ edgeFound block out e f → (n : ℕ) → found .answer ≡ Refused n
+      → Number (edgeAnswer block out e f) n
   unfolding edgeFound
   found-refused found i n h = number-handed (edgeAnswer block out e f) n (sym (ap (λ (found : Found). found .answer) i) ∙ h)
 
@@ -144,7 +146,8 @@ module _ (block out : List ℕ) (e f : ℕ) where
             long = subst (λ (s : Site). minRing ≤ m s) (sym own-site) (lengths .0);
             short = subst (λ (s : Site). m s ≤ maxRing) (sym own-site) (lengths .1);
             ring-below = subst (λ (s : Site). (i : ℕ) → i < m s → getD (s .ring) i 0 < pointCount block) (sym own-site) (λ i k.
-                subst (λ c. getD (site .ring) i 0 < c) (points-counted block) (ring-point block e f edge-sound (at-in (site .ring) i 0 k) .below));
+                subst (λ c. getD (site .ring) i 0 < c) (points-counted block)
+                (ring-point block e f edge-sound (at-in (site .ring) i 0 k) .below));
           }
 
       pub ringed : Ringed (coordinatesOf block) (pointCount block) (tableOf block) (rowCount block) a b (found .ring)

@@ -15,14 +15,14 @@ use Rattle.measure.specs.Measure.{worse, worst}
 use Rattle.measure.proofs.Order.{Fraction, _⊑_, at-most-trans, Worst, worst-is}
 use Rattle.measure.specs.declared.Point.{Point}
 use Rattle.mesh.specs.declared.Row.{Row}
-use Rattle.mesh.specs.Mesh.{numbers, rowQuality}
+use Rattle.mesh.specs.Mesh.{numbers, rowQuality, holdsEdge}
 use Rattle.mesh.specs.Tetrahedra.{rearranged, SameTetrahedra}
 use Rattle.mesh.proofs.Evenly.{even-holds}
 use Rattle.mesh.proofs.Measured.{even-quality}
 use Rattle.block.specs.Layout.{fieldsOf}
 use Rattle.block.specs.Answers.{Tests, firstRefusal, notBlock}
 use Rattle.block.proofs.Refusals.{passed, refuses}
-use Rattle.ring.specs.Ring.{Site, siteOf, m, minRing, maxRing, holdsEdge, numbersWrong, lengthWrong, edgeTests}
+use Rattle.ring.specs.Ring.{Site, siteOf, m, minRing, maxRing, numbersWrong, lengthWrong, edgeTests}
 use Rattle.ring.proofs.Order as Order
 use Rattle.ring.proofs.Order.{row-across, same-tests}
 use Rattle.ring.specs.Found.{ringTests}
@@ -31,10 +31,12 @@ use Rattle.pieces.specs.Admissible.{admissible, pieceAdmissible}
 use Rattle.pieces.specs.Best.{worstOfWay, ringWays, chosen}
 use Rattle.pieces.proofs.Admissible.{ring-admissible}
 use Rattle.pieces.proofs.Ways.{ways-span}
-use Rattle.pieces.proofs.Rings.{rows-fractions, way-listed, listed-way}
+use Rattle.pieces.proofs.Worsts.{rows-fractions}
+use Rattle.pieces.proofs.Rings.{way-listed, listed-way}
 use Rattle.pieces.proofs.Across.{those-across, length-across}
 use Rattle.pieces.proofs.Kindred.{kin, piece-same, worst-same, rows-same}
-use Rattle.patch.specs.Removing.{blockTests, worstNow, noRoom, noWay, noneBetter, patchAfter, totalDiffers, removalTests, removeAnswer, Sound}
+use Rattle.patch.specs.Removing.{blockTests, worstNow, noRoom, noWay, noneBetter, patchAfter, totalDiffers, removalTests}
+use Rattle.patch.specs.Removing.{removeAnswer, Sound}
 use Rattle.patch.specs.Flipping.{flip32Tests, flip32Answer}
 use Rattle.patch.specs.Demands.{SameMesh, AnyRowOrder}
 use Rattle.patch.proofs.Answering.{same-behind, block-opened}
@@ -56,7 +58,8 @@ module _ (site other : Site) (three : 3 ≤ m site) (like : Like site other) whe
   unfolding noWay
   no-way-same =
       rw (← (like .size))
-      (ap not (any-same (admissible site) (admissible other) (ways (m site - 1)) (λ t k. like .keeps t (ways-span (m site - 1) (omega arith) k))))
+      (ap not (any-same (admissible site) (admissible other) (ways (m site - 1))
+      (λ t k. like .keeps t (ways-span (m site - 1) (omega arith) k))))
 
   none-to : T (noneBetter site) → T (noneBetter other)
   unfolding noneBetter
@@ -103,7 +106,8 @@ module _ (block other : List ℕ) (e f : ℕ) (same : SameMesh block other) wher
   module _ (apart : e ≡ f → ⊥) where
     ring-same : site .ring ≡ its .ring
     ring-same =
-        Order.same-ring (length (fieldsOf block .points)) (fieldsOf block) (fieldsOf other) e f apart (opens-rule block (same .opens)) (same .tetrahedra)
+        Order.same-ring (length (fieldsOf block .points)) (fieldsOf block) (fieldsOf other) e f apart
+        (opens-rule block (same .opens)) (same .tetrahedra)
 
     abbrev kindred : Site
     kindred = kin site (its .removed) (its .kept) (its .links) kept-same
@@ -113,14 +117,16 @@ module _ (block other : List ℕ) (e f : ℕ) (same : SameMesh block other) wher
     site-kin = with-fields its points-same (sym ring-same)
 
     numbers-of : map numbers (newRows site 1 (chosen site)) ≡ map numbers (newRows its 1 (chosen its))
-    numbers-of = rows-same site (its .removed) (its .kept) (its .links) kept-same ∙ ap (λ s. map numbers (newRows s 1 (chosen s))) (sym site-kin)
+    numbers-of = rows-same site (its .removed) (its .kept) (its .links) kept-same
+        ∙ ap (λ s. map numbers (newRows s 1 (chosen s))) (sym site-kin)
 
     -- answers 9 to 12
     edge-same : edgeTests site e f ≡ edgeTests its e f
     unfolding edgeTests ringTests
     edge-same =
         ap (λ (tests : Tests). (9, numbersWrong (length (site .points)) (e ∷ f ∷ [])) ∷ take 3 tests)
-        (same-tests (length (fieldsOf block .points)) (fieldsOf block) (fieldsOf other) e f apart (opens-rule block (same .opens)) (same .tetrahedra))
+        (same-tests (length (fieldsOf block .points)) (fieldsOf block) (fieldsOf other) e f apart
+        (opens-rule block (same .opens)) (same .tetrahedra))
         ∙ ap (λ (points : List Point). (9, numbersWrong (length points) (e ∷ f ∷ [])) ∷ take 3 (ringTests its)) (sym points-same)
 
     length-same : lengthWrong site ≡ lengthWrong its
@@ -132,11 +138,13 @@ module _ (block other : List ℕ) (e f : ℕ) (same : SameMesh block other) wher
     module _ (sound : Sound block e f) (its-sound : Sound other e f) where
       worst-of : Worst (worstNow site) (map (rowQuality (site .points)) (site .removed))
       worst-of =
-          worst-is (map (rowQuality (site .points)) (site .removed)) (rows-fractions (site .points) (site .removed)) (worst-now block e f sound)
+          worst-is (map (rowQuality (site .points)) (site .removed)) (rows-fractions (site .points) (site .removed))
+          (worst-now block e f sound)
 
       its-worst : Worst (worstNow its) (map (rowQuality (its .points)) (its .removed))
       its-worst =
-          worst-is (map (rowQuality (its .points)) (its .removed)) (rows-fractions (its .points) (its .removed)) (worst-now other e f its-sound)
+          worst-is (map (rowQuality (its .points)) (its .removed)) (rows-fractions (its .points) (its .removed))
+          (worst-now other e f its-sound)
 
       -- the worst row round the edge is no better than any of the other table's
       now-most : worstNow site ⊑ worstNow its
@@ -199,7 +207,8 @@ module _ (block other : List ℕ) (e f : ℕ) (same : SameMesh block other) (apa
   before-same three = rw (length-same block other e f same apart, room-same block other e f same apart, way-same three, none-same three)
 
   -- 17 is given for neither
-  last-same : 3 ≤ m left → noWay left ≡ false → totalDiffers (fieldsOf block) (patchAfter left) ≡ totalDiffers (fieldsOf other) (patchAfter right)
+  last-same : 3 ≤ m left → noWay left ≡ false
+      → totalDiffers (fieldsOf block) (patchAfter left) ≡ totalDiffers (fieldsOf other) (patchAfter right)
   unfolding patchAfter
   last-same three way =
       let three' : 3 ≤ m right = omega (arith, alike three .size) in
@@ -212,7 +221,8 @@ module _ (block other : List ℕ) (e f : ℕ) (same : SameMesh block other) (apa
   unfolding removalTests
   removal-same = go (lengthWrong left) refl
     where
-      go : (b : Bool) → lengthWrong left ≡ b → firstRefusal (removalTests (fieldsOf block) left) ≡ firstRefusal (removalTests (fieldsOf other) right)
+      go : (b : Bool) → lengthWrong left ≡ b
+          → firstRefusal (removalTests (fieldsOf block) left) ≡ firstRefusal (removalTests (fieldsOf other) right)
       go true h =
           refuses 13 (lengthWrong left) _ h ∙ sym (refuses 13 (lengthWrong right) _ (sym (length-same block other e f same apart) ∙ h))
       go false h =
@@ -224,7 +234,8 @@ module _ (block other : List ℕ) (e f : ℕ) (same : SameMesh block other) (apa
           let (b, passes) = passed 13 (noRoom left) _ passes in
           let (c, passes) = passed 14 (noWay left) _ passes in
           ap (λ differs. firstRefusal ((17, differs) ∷ [])) (last-same three c))
-          ∙ ap (λ (tests : Tests). firstRefusal (tests ++ ((17, totalDiffers (fieldsOf other) (patchAfter right)) ∷ []))) (before-same three)
+          ∙ ap (λ (tests : Tests). firstRefusal (tests ++ ((17, totalDiffers (fieldsOf other) (patchAfter right)) ∷ [])))
+          (before-same three)
 
   flip-same : firstRefusal (flip32Tests left) ≡ firstRefusal (flip32Tests right)
   unfolding flip32Tests

@@ -18,7 +18,10 @@ use Rattle.patch.proofs.Standing.{summary-opened, fields-after}
 page-given : (block out : List ℕ) (e f : ℕ) → removeAnswer block out e f ≡ 0
     → let before = worstOfPatch (fieldsOf block) in
     let after = worstOfPatch (fieldsOf (removeBytes block out e f)) in
-    removeGives block out e f ≡ record { removal = Done (pageRow (shown before) (shown after)); ring = ringWith (siteOf (fieldsOf block) e f .ring) }
+    removeGives block out e f ≡ record {
+      removal = Done (pageRow (shown before) (shown after));
+      ring = ringWith (siteOf (fieldsOf block) e f .ring);
+    }
 page-given block out e f done = rw (fields-after block out e f done) (gives-done block out e f done)
 
 pub demand-2 : Demand2

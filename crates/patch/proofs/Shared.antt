@@ -1,5 +1,6 @@
 -- Law 18: under the mesh rule a face stands in at most two rows; and with two, a and b are their apexes, so nothing stands in for them.
--- A proper row that holds three numbers, arranged to begin with two of them, has the third in one of two places: it uses the face one way or the other.
+-- A proper row that holds three numbers, arranged to begin with two of them, has the third in one of two places:
+-- it uses the face one way or the other.
 use Prim.Native.Nat.{ℕ, _+_, _≤_, min, max}
 use mathlib.Core.Bool.{Bool, true, false, _&&_}
 use mathlib.Core.List.{List, [], _∷_, List·Memᴰ, List·Memᴰ·head, List·Memᴰ·tail}
@@ -13,7 +14,7 @@ use Rattle.lists.proofs.Lists.{every-at}
 use Rattle.lists.proofs.Counts.{ind, count-cons}
 use Rattle.lists.proofs.Numbers.{different-head, different-tail}
 use Rattle.mesh.specs.declared.Row.{Row}
-use Rattle.mesh.specs.Mesh.{Face, holds, faces, uses, usesEitherWay, keepsMeshRule}
+use Rattle.mesh.specs.Mesh.{Face, holds, holdsFace, faces, uses, usesEitherWay, keepsMeshRule}
 use Rattle.mesh.specs.Tetrahedra.{arrangedFrom}
 use Rattle.mesh.proofs.Faces.{as-is, uses-i}
 use Rattle.mesh.proofs.Rule.{two-rows}
@@ -21,7 +22,7 @@ use Rattle.mesh.proofs.Evenly.{even-uses, even-holds, holds-cases}
 use Rattle.mesh.proofs.Places.{arranged-from}
 use Rattle.block.specs.Layout.{Patch}
 use Rattle.ring.specs.Ring.{smallest, numbersWrong}
-use Rattle.patch.specs.Flipping.{holdsFace, apexOver, pairOf}
+use Rattle.patch.specs.Flipping.{apexOver, pairOf}
 
 module _ (x y z : ℕ) (x-y : x ≡ y → ⊥) (x-z : x ≡ z → ⊥) (y-z : y ≡ z → ⊥) (row : Row) where
   abbrev face : List ℕ
@@ -41,7 +42,8 @@ module _ (x y z : ℕ) (x-y : x ≡ y → ⊥) (x-z : x ≡ z → ⊥) (y-z : y 
       let own : (f : Face) → T (uses f t) → T (uses f row) = λ f u. subst T (even-uses t row e f) u in
       holds-cases t z there (λ i. absurd (x-z (sym (i ∙ p)))) (λ i. absurd (y-z (sym (i ∙ q))))
       (λ i. or-r (uses (x, y, z) row) (uses (x, z, y) row) (own (x, z, y)
-      (uses-i (x, z, y) (t .p, t .r, t .q) t (List·Memᴰ·tail (List·Memᴰ·tail (List·Memᴰ·tail (List·Memᴰ·head refl)))) (as-is (sym p) i (sym q)))))
+      (uses-i (x, z, y) (t .p, t .r, t .q) t (List·Memᴰ·tail (List·Memᴰ·tail (List·Memᴰ·tail (List·Memᴰ·head refl))))
+      (as-is (sym p) i (sym q)))))
       (λ i. or-l (uses (x, y, z) row) (uses (x, z, y) row) (own (x, y, z)
       (uses-i (x, y, z) (t .p, t .q, t .s) t (List·Memᴰ·tail (List·Memᴰ·tail (List·Memᴰ·head refl))) (as-is (sym p) (sym q) i))))
 
@@ -67,7 +69,11 @@ at-most-two points x y z rows rule right =
     let x-y = different-head x (y ∷ z ∷ []) apart (List·Memᴰ·head refl) in
     let x-z = different-head x (y ∷ z ∷ []) apart (List·Memᴰ·tail (List·Memᴰ·head refl)) in
     let y-z = different-head y (z ∷ []) (different-tail x (y ∷ z ∷ []) apart) (List·Memᴰ·head refl) in
-    omega (arith, count-weaker (holdsFace face) (usesEitherWay (x, y, z)) (face-used x y z x-y x-z y-z) rows, two-rows points rows rule (x, y, z))
+    omega (
+      arith,
+      count-weaker (holdsFace face) (usesEitherWay (x, y, z)) (face-used x y z x-y x-z y-z) rows,
+      two-rows points rows rule (x, y, z),
+    )
 
 -- with two rows, a is the smaller of their apexes and b the other
 pub apexes-of-two : (patch : Patch) (face : List ℕ) (r s : Row) → pairOf patch face .removed ≡ r ∷ s ∷ []

@@ -1,10 +1,10 @@
 -- A face in a table: what one pass keeps, one row more at a time; and, under the mesh rule, a's row with its apex and the face.
 -- A number at the end is the smallest, or the smallest is what it was; the first row of the smallest apex goes with it.
 use Prim.Native.Nat.{ℕ, suc, _+_, _≤_, _<_, min, max}
-use mathlib.Core.Bool.{Bool, true, false, cond, not, _||_}
+use mathlib.Core.Bool.{Bool, true, false, cond, not}
 use mathlib.Core.List.{List, [], _∷_, _++_, map, foldr, append-nil, List·Memᴰ, Memᴰ·map, map-append, Memᴰ·of-map}
 use mathlib.Core.Logic.{_⊎_, inl, inr}
-use mathlib.Core.Option.{none, some, Option·getD}
+use mathlib.Core.Option.{Option·getD}
 use mathlib.Core.Path.{_≡_, refl, sym, ap, _∙_, subst}
 use native.Mathlib.Numerals.{add-one}
 use native.Mathlib.Omega.{arith}
@@ -13,10 +13,10 @@ use lib.Dec.{T, eqb, ltb, eqb→eq, T-not, not-T}
 use lib.ListN.{length, length-append, length-map}
 use Rattle.lists.specs.Lists.{every, any, those, first, firstOr, has, different}
 use Rattle.lists.proofs.Tests.{and-l, and-r, and-i, either, no-is, eq-test}
-use Rattle.lists.proofs.Lists.{every-at, any-i, any-e, those-e, those-append, those-split, first-found}
-use Rattle.lists.proofs.Numbers.{has-i, has-e, no-more}
+use Rattle.lists.proofs.Lists.{every-at, any-i, any-e, those-e, those-append, those-split, first-front, first-behind, first-found}
+use Rattle.lists.proofs.Numbers.{has-i, has-e, no-more, max-more, min-more}
 use Rattle.mesh.specs.declared.Row.{Row}
-use Rattle.mesh.specs.Mesh.{rowIn, rowsIn, numbers, holds, numbersFit, noRow, keepsMeshRule}
+use Rattle.mesh.specs.Mesh.{rowIn, rowsIn, numbers, holds, holdsFace, numbersFit, noRow, keepsMeshRule}
 use Rattle.mesh.proofs.Tables.{rows-more}
 use Rattle.mesh.proofs.Rule.{keeps-fits}
 use Rattle.mesh.proofs.Places.{arranged-from}
@@ -25,44 +25,14 @@ use Rattle.ring.specs.Found.{LinkedRow}
 use Rattle.ring.proofs.Rounding.{smallest-in, smallest-le}
 use Rattle.pieces.specs.Triangulation.{regionOf}
 use Rattle.patch.specs.declared.flipping.Sharing.{Sharing}
-use Rattle.patch.specs.Flipping.{holdsFace, apexOver, Pair, pairOf, threeRows}
+use Rattle.patch.specs.Flipping.{apexOver, Pair, pairOf, threeRows}
 use Rattle.patch.specs.Pairing.{sharing, sharingIn, withRow, threeOf}
 
 -- ---- one more at the end
 
-min-more : (d p : ℕ) (ns : List ℕ) → foldr min d (ns ++ p ∷ []) ≡ min (foldr min d ns) p
-min-more d p [] = omega arith
-min-more d p (n ∷ ns) = rw (min-more d p ns) (omega arith)
-
 smallest-more : (n : ℕ) (ns : List ℕ) (p : ℕ) → smallest (n ∷ (ns ++ p ∷ [])) ≡ min (smallest (n ∷ ns)) p
 unfolding smallest
 smallest-more n ns p = min-more n p ns
-
-max-more : (p : ℕ) (ns : List ℕ) → foldr max 0 (ns ++ p ∷ []) ≡ max (foldr max 0 ns) p
-max-more p [] = omega arith
-max-more p (n ∷ ns) = rw (max-more p ns) (omega arith)
-
-module _ {A : Type 0} (q : A → Bool) where
-  -- the first that passes stands in front, or behind where none in front does
-  first-front : (xs ys : List A) → T (any q xs) → first q (xs ++ ys) ≡ first q xs
-  unfolding first any
-  first-front [] ys h = absurd h
-  first-front (x ∷ xs) ys h = go (q x) h (first-front xs ys)
-    where
-      go : (b : Bool) → T (b || any q xs) → (T (any q xs) → first q (xs ++ ys) ≡ first q xs)
-          → cond b (some x) (first q (xs ++ ys)) ≡ cond b (some x) (first q xs)
-      go true h f = refl
-      go false h f = f h
-
-  first-behind : (xs ys : List A) → any q xs ≡ false → first q (xs ++ ys) ≡ first q ys
-  unfolding first any
-  first-behind [] ys h = refl
-  first-behind (x ∷ xs) ys h = go (q x) h (first-behind xs ys)
-    where
-      go : (b : Bool) → b || any q xs ≡ false → (any q xs ≡ false → first q (xs ++ ys) ≡ first q ys)
-          → cond b (some x) (first q (xs ++ ys)) ≡ first q ys
-      go true h f = absurd (subst T h tt)
-      go false h f = f h
 
 -- ---- the rows that hold a face
 
@@ -70,7 +40,13 @@ module _ {A : Type 0} (q : A → Bool) where
 abbrev kept : (Row → ℕ) → List Row → Sharing
 kept apex rows =
     let a = smallest (map apex rows) in
-    record { n = length rows; a = a; b = foldr max 0 (map apex rows); row = firstOr noRow (λ row. eqb (apex row) a) rows; region = regionOf rows }
+    record {
+      n = length rows;
+      a = a;
+      b = foldr max 0 (map apex rows);
+      row = firstOr noRow (λ row. eqb (apex row) a) rows;
+      region = regionOf rows;
+    }
 
 same-sharing : {n m a b c d g h : ℕ} {r s : Row} → n ≡ m → a ≡ b → c ≡ d → r ≡ s → g ≡ h
     → _≡_ {A = Sharing} (record { n = n; a = a; b = c; row = r; region = g }) (record { n = m; a = b; b = d; row = s; region = h })
@@ -104,7 +80,8 @@ module _ (apex : Row → ℕ) (r : Row) (rs : List Row) (row : Row) where
       ∙ rw (eq-eqb (apex row) (apex row) refl)
 
   row-above : firstOr noRow (λ t. eqb (apex t) low) (rows ++ row ∷ []) ≡ firstOr noRow (λ t. eqb (apex t) low) rows
-  row-above = ap (λ found. Option·getD found noRow) (first-front (λ t. eqb (apex t) low) rows (row ∷ []) (some-low apex rows (λ e. omega arith)))
+  row-above = ap (λ found. Option·getD found noRow)
+      (first-front (λ t. eqb (apex t) low) rows (row ∷ []) (some-low apex rows (λ e. omega arith)))
 
   low-more : smallest (map apex (rows ++ row ∷ [])) ≡ min low (apex row)
   low-more = ap smallest (map-append apex rows (row ∷ [])) ∙ smallest-more (apex r) (map apex rs) (apex row)
@@ -123,8 +100,20 @@ module _ (apex : Row → ℕ) (r : Row) (rs : List Row) (row : Row) where
       found a ts = firstOr noRow (λ t. eqb (apex t) a) ts
 
       go : (b : Bool) → ltb (apex row) low ≡ b
-          → cond b (record { n = length rows + 1; a = apex row; b = max (foldr max 0 (map apex rows)) (apex row); row = row; region = r .region })
-          (record { n = length rows + 1; a = low; b = max (foldr max 0 (map apex rows)) (apex row); row = found low rows; region = r .region })
+          → cond b (record {
+            n = length rows + 1;
+            a = apex row;
+            b = max (foldr max 0 (map apex rows)) (apex row);
+            row = row;
+            region = r .region;
+          })
+          (record {
+            n = length rows + 1;
+            a = low;
+            b = max (foldr max 0 (map apex rows)) (apex row);
+            row = found low rows;
+            region = r .region;
+          })
           ≡ kept apex (rows ++ row ∷ [])
       go true e =
           let h = ltb-true (apex row) low e in
@@ -148,14 +137,16 @@ module _ (face : List ℕ) (rows : List Row) (row : Row) where
   pub share-held : holdsFace face row ≡ true → withRow (sharingIn rows face) row (apexOver face row) ≡ sharingIn (rows ++ row ∷ []) face
   unfolding pairOf those
   share-held e =
-      let more : those (holdsFace face) (rows ++ row ∷ []) ≡ those (holdsFace face) rows ++ row ∷ [] = rw (those-append (holdsFace face) rows (row ∷ []), e) in
+      let more : those (holdsFace face) (rows ++ row ∷ []) ≡ those (holdsFace face) rows ++ row ∷ [] =
+      rw (those-append (holdsFace face) rows (row ∷ []), e) in
       kept-more (apexOver face) (those (holdsFace face) rows) row ∙ ap (kept (apexOver face)) (sym more)
 
   -- any other row
   pub share-other : holdsFace face row ≡ false → sharingIn rows face ≡ sharingIn (rows ++ row ∷ []) face
   unfolding pairOf those
   share-other e =
-      let same : those (holdsFace face) (rows ++ row ∷ []) ≡ those (holdsFace face) rows = rw (those-append (holdsFace face) rows (row ∷ []), e) (append-nil _) in
+      let same : those (holdsFace face) (rows ++ row ∷ []) ≡ those (holdsFace face) rows =
+      rw (those-append (holdsFace face) rows (row ∷ []), e) (append-nil _) in
       ap (kept (apexOver face)) (sym same)
 
 -- no more than there are rows
@@ -164,7 +155,8 @@ unfolding pairOf
 share-few face rows = omega (arith, those-split (holdsFace face) rows)
 
 -- one row more of a table
-module _ (face table : List ℕ) (i : ℕ) (found : Sharing) (so-far : found ≡ sharingIn (rowsIn table i) face) (row : Row) (row-is : row ≡ rowIn table i)
+module _ (face table : List ℕ) (i : ℕ) (found : Sharing) (so-far : found ≡ sharingIn (rowsIn table i) face) (row : Row)
+    (row-is : row ≡ rowIn table i)
     (test : Bool) (test-is : test ≡ holdsFace face row) where
   pub held-next : test ≡ true → (apex : ℕ) (after : Sharing) → apex ≡ apexOver face row → after ≡ withRow found row apex
       → after ≡ sharingIn (rowsIn table (i + 1)) face
@@ -172,7 +164,8 @@ module _ (face table : List ℕ) (i : ℕ) (found : Sharing) (so-far : found ≡
       rw (add-one i, rows-more table i, ← row-is) (f ∙ rw (so-far, a) (share-held face (rowsIn table i) row (sym test-is ∙ e)))
 
   pub other-next : test ≡ false → (after : Sharing) → after ≡ found → after ≡ sharingIn (rowsIn table (i + 1)) face
-  other-next e after f = rw (add-one i, rows-more table i, ← row-is) (f ∙ (so-far ∙ share-other face (rowsIn table i) row (sym test-is ∙ e)))
+  other-next e after f =
+      rw (add-one i, rows-more table i, ← row-is) (f ∙ (so-far ∙ share-other face (rowsIn table i) row (sym test-is ∙ e)))
 
 -- ---- the apex, and a's row, under the mesh rule
 
@@ -180,11 +173,13 @@ module _ (face table : List ℕ) (i : ℕ) (found : Sharing) (so-far : found ≡
 some-outside : (face : List ℕ) (row : Row) → length face < 4 → T (different (numbers row)) → T (any (λ n. not (has face n)) (numbers row))
 some-outside face row few apart = go (either (any (λ n. not (has face n)) (numbers row)))
   where
-    inside : T (not (any (λ n. not (has face n)) (numbers row))) → (n : ℕ) → List·Memᴰ n (numbers row) → T (has face n) ⊎ T (not (has face n)) → List·Memᴰ n face
+    inside : T (not (any (λ n. not (has face n)) (numbers row))) → (n : ℕ) → List·Memᴰ n (numbers row)
+        → T (has face n) ⊎ T (not (has face n)) → List·Memᴰ n face
     inside k n m (inl h) = has-e face n h
     inside k n m (inr h) = absurd (T-not (any (λ n. not (has face n)) (numbers row)) k (any-i (λ n. not (has face n)) (numbers row) m h))
 
-    go : T (any (λ n. not (has face n)) (numbers row)) ⊎ T (not (any (λ n. not (has face n)) (numbers row))) → T (any (λ n. not (has face n)) (numbers row))
+    go : T (any (λ n. not (has face n)) (numbers row)) ⊎ T (not (any (λ n. not (has face n)) (numbers row)))
+        → T (any (λ n. not (has face n)) (numbers row))
     go (inl k) = k
     go (inr k) = absurd (omega (arith, no-more (numbers row) face apart (λ n m. inside k n m (either (has face n)))))
 
@@ -226,11 +221,13 @@ module _ (count : ℕ) (rows : List Row) (x y z : ℕ) (rule : T (keepsMeshRule 
           count = count;
           fits = fit;
           apart = λ q. T-not (has face (apexOver face row)) out (has-i face (subst (λ n. List·Memᴰ n face) (sym (e ∙ q)) least));
-          held = and-i (holds row (pair .a)) (holds row (smallest face)) (subst (λ n. T (holds row n)) e held) (every-at (holds row) face h least);
+          held = and-i (holds row (pair .a)) (holds row (smallest face)) (subst (λ n. T (holds row n)) e held)
+              (every-at (holds row) face h least);
         }
 
     -- the three rows, as they are written
-    pub three-rows : threeRows pair face ≡ threeOf (sharing pair) (smallest face) (link (pair .a) (smallest face) (pair .rowOfA) .0) (link (pair .a) (smallest face) (pair .rowOfA) .1)
+    pub three-rows : threeRows pair face ≡ threeOf (sharing pair) (smallest face) (link (pair .a) (smallest face) (pair .rowOfA) .0)
+        (link (pair .a) (smallest face) (pair .rowOfA) .1)
     unfolding threeRows link
     three-rows =
         let row = pair .rowOfA in

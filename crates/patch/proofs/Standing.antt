@@ -9,11 +9,11 @@ use Rattle.lists.proofs.Lists.{those-split}
 use Rattle.measure.specs.declared.Quality.{Quality}
 use Rattle.measure.specs.Measure.{worst, zeroQuality}
 use Rattle.mesh.specs.declared.Row.{Row}
-use Rattle.mesh.specs.Mesh.{rowQuality}
+use Rattle.mesh.specs.Mesh.{rowQuality, holdsEdge}
 use Rattle.lists.proofs.Places.{getD-inside}
 use Rattle.block.specs.Layout.{fieldsOf}
 use Rattle.block.specs.Answers.{openAnswer}
-use Rattle.ring.specs.Ring.{Site, siteOf, holdsEdge}
+use Rattle.ring.specs.Ring.{Site, siteOf}
 use Rattle.pieces.specs.Triangulation.{regionOf, tableAfter}
 use Rattle.pieces.specs.Best.{chosen}
 use Rattle.pieces.proofs.Rings.{after-length}
@@ -37,7 +37,8 @@ summary-opened block e = rw (e, summaryGives)
 -- ---- rows that are there
 
 -- of some qualities there is a worst
-worst-some : (f : Row → Quality) (rows : List Row) → 0 < length rows → worst (map f rows) ≡ some (Option·getD (worst (map f rows)) zeroQuality)
+worst-some : (f : Row → Quality) (rows : List Row) → 0 < length rows
+    → worst (map f rows) ≡ some (Option·getD (worst (map f rows)) zeroQuality)
 unfolding worst
 worst-some f [] h = absurd (omega arith)
 worst-some f (row ∷ rows) h = refl
@@ -79,7 +80,8 @@ module _ (block out : List ℕ) (e f : ℕ) (done : removeAnswer block out e f �
   -- it opens, and its summary is that of the patch afterwards
   pub summary-after : summaryGives (removeBytes block out e f) ≡ Summed (summaryOf (patchAfter its))
   summary-after =
-      summary-opened (removeBytes block out e f) (remove-accepted block out e f done .opens) ∙ ap (λ patch. Summed (summaryOf patch)) fields-after
+      summary-opened (removeBytes block out e f) (remove-accepted block out e f done .opens)
+      ∙ ap (λ patch. Summed (summaryOf patch)) fields-after
 
   -- there are new rows, so the patch afterwards has a worst row
   pub worst-after : worst (qualities (patchAfter its)) ≡ some (worstOfPatch (patchAfter its))

@@ -27,7 +27,8 @@ use Rattle.pieces.specs.Best.{worstOfWay, ringWays, chosen}
 use Rattle.pieces.proofs.Worsts.{row-fraction, worst-over}
 use Rattle.pieces.proofs.Volume.{table-total}
 use Rattle.pieces.proofs.Rings.{BestWay, way-listed, listed-way, found-way, ring-chosen, worst-row, after-length}
-use Rattle.patch.specs.Removing.{blockTests, worstNow, noRoom, noWay, noneBetter, patchAfter, totalDiffers, removalTests, removeAnswer, removeBytes, Sound}
+use Rattle.patch.specs.Removing.{blockTests, worstNow, noRoom, noWay, noneBetter, patchAfter, totalDiffers, removalTests}
+use Rattle.patch.specs.Removing.{removeAnswer, removeBytes, Sound}
 use Rattle.patch.specs.Demands.{Way, Premises, NoneBetter, Demand3}
 use Rattle.patch.proofs.Answering.{unlike, both-passed, reached, remove-left}
 use Rattle.patch.proofs.Sites.{sound-site, site-length}
@@ -184,7 +185,8 @@ module _ (block out : List ℕ) (e f : ℕ) (given : Premises block out e f) whe
   rows-written : removeAnswer block out e f ≡ 0 → fieldsOf (removeBytes block out e f) .rows ≡ tableAfter its (chosen its)
   unfolding removeBytes patchAfter siteOf
   rows-written h =
-      let room : length (tableAfter its (chosen its)) ≤ maxRows = omega (arith, given .room, after-length its (chosen its) (best .way .spans)) in
+      let room : length (tableAfter its (chosen its)) ≤ maxRows =
+      omega (arith, given .room, after-length its (chosen its) (best .way .spans)) in
       rw (h, rows-read block (given .sound .opens) (tableAfter its (chosen its)) room)
 
   pub demand-3 : Demand3 block out e f

@@ -1,7 +1,8 @@
 -- Three rows (a,b,u,v), (a,b,v,w), (a,b,w,u) and no other that holds a and b: the ring is u, v, w, and no answer from 9 to 13 is given.
 use Prim.Native.Nat.{ℕ, _<_, _≤_, min, max}
 use mathlib.Core.Bool.{Bool, true, false, not}
-use mathlib.Core.List.{List, [], _∷_, _++_, map, flatMap, List·Memᴰ, List·Memᴰ·head, List·Memᴰ·tail, List·Memᴰ·not-nil, Memᴰ·append-right, append-nil}
+use mathlib.Core.List.{List, [], _∷_, _++_, map, flatMap, List·Memᴰ, List·Memᴰ·head, List·Memᴰ·tail, List·Memᴰ·not-nil, Memᴰ·append-right}
+use mathlib.Core.List.{append-nil}
 use mathlib.Core.Option.{some}
 use mathlib.Core.Path.{_≡_, refl, sym, ap, _∙_}
 use native.Mathlib.Omega.{arith}
@@ -10,24 +11,23 @@ use lib.Dec.{T}
 use lib.ListN.{length}
 use Rattle.lists.specs.Lists.{every, any, has, different}
 use Rattle.lists.proofs.Tests.{and-i, yes-is}
-use Rattle.lists.proofs.Lists.{every-at, every-i, those-append, every-cons}
+use Rattle.lists.proofs.Lists.{every-at, every-i, those-append, those-all, those-none, every-cons}
 use Rattle.lists.proofs.Numbers.{has-i}
 use Rattle.lists.proofs.Places.{in-cases}
 use Rattle.measure.specs.declared.Point.{Point}
 use Rattle.mesh.specs.declared.Row.{Row}
-use Rattle.mesh.specs.Mesh.{numbersFit, keepsMeshRule, Proper}
+use Rattle.mesh.specs.Mesh.{numbersFit, keepsMeshRule, Proper, holdsEdge}
 use Rattle.mesh.proofs.Places.{even-refl}
 use Rattle.mesh.proofs.Rule.{fit-proper, keeps-fits}
 use Rattle.block.specs.Layout.{Patch}
 use Rattle.block.specs.Answers.{firstRefusal}
-use Rattle.ring.specs.Ring.{Link, holdsEdge, link, next, closes, starts, ringOf, Site, siteOf, numbersWrong, linkOpen, manyCircles, edgeTests}
+use Rattle.ring.specs.Ring.{Link, link, next, closes, starts, ringOf, Site, siteOf, numbersWrong, linkOpen, manyCircles, edgeTests}
 use Rattle.ring.proofs.Linking.{link-is}
 use Rattle.ring.proofs.Walking.{Walks, last, more, next-is, walks-walk}
 use Rattle.ring.proofs.Closing.{closes-i}
 use Rattle.ring.proofs.Rounding.{smallest-is}
 use Rattle.pieces.specs.Triangulation.{Tri, side, cut, span, triangles, twoRows, newRows, tableAfter}
 use Rattle.pieces.proofs.Ways.{span-over}
-use Rattle.patch.proofs.Lists.{those-all, those-none}
 use Rattle.patch.proofs.Orders.{ThreeApart, apart-three}
 
 -- ---- three links
@@ -72,7 +72,8 @@ module _ (u v w : ℕ) (apart : ThreeApart u v w) where
   unfolding ringOf
   three-ring uv uw =
       let least = smallest-is (starts links) u (List·Memᴰ·head refl)
-      (λ k i. in-cases i (λ e. omega arith) λ i. in-cases i (λ e. omega arith) λ i. in-cases i (λ e. omega arith) λ i. absurd (List·Memᴰ·not-nil i)) in
+      (λ k i. in-cases i (λ e. omega arith) λ i. in-cases i (λ e. omega arith)
+      λ i. in-cases i (λ e. omega arith) λ i. absurd (List·Memᴰ·not-nil i)) in
       rw (← least, walks-walk links u 3 walk-u (omega arith))
 
 -- ---- three rows

@@ -32,7 +32,8 @@ module _ (block : List ℕ) (opened : openAnswer block ≡ 0) (rows : List Row) 
 
   module _ (rule : T (keepsMeshRule (length (fieldsOf block .points)) rows)) where
     pub rows-open : openAnswer (bytesOf withRows) ≡ 0
-    rows-open = opens (bytesOf withRows) (bytes-right withRows (few-points block opened) room (right-block block opened .body .coordinates) rule)
+    rows-open = opens (bytesOf withRows)
+        (bytes-right withRows (few-points block opened) room (right-block block opened .body .coordinates) rule)
 
     pub accepted : (goes : Row → Bool) (new : List Row) → rows ≡ those (λ row. not (goes row)) (fieldsOf block .rows) ++ new
         → totalD (fieldsOf block .points) rows ≡ totalD (fieldsOf block .points) (fieldsOf block .rows)

@@ -11,12 +11,12 @@ use Rattle.lists.specs.Lists.{any, has, those}
 use Rattle.measure.specs.Measure.{worse}
 use Rattle.measure.specs.Page.{shown, pageRow}
 use Rattle.mesh.specs.declared.Row.{Row}
-use Rattle.mesh.specs.Mesh.{MeshRule, numbers, rowQuality, totalD}
+use Rattle.mesh.specs.Mesh.{MeshRule, numbers, rowQuality, totalD, holdsEdge, holdsFace}
 use Rattle.mesh.specs.Tetrahedra.{SameTetrahedra}
 use Rattle.block.specs.Layout.{Patch, blockBytes, maxRows, fieldsOf, bytesOf}
 use Rattle.block.specs.Within.{Kept}
 use Rattle.block.specs.Answers.{openAnswer, openGives, numberOf, sealAnswer, sealBytes}
-use Rattle.ring.specs.Ring.{Site, siteOf, m, minRing, maxRing, holdsEdge, ringWith}
+use Rattle.ring.specs.Ring.{Site, siteOf, m, minRing, maxRing, ringWith}
 use Rattle.pieces.specs.Triangulation.{Tri, span, newRows, rowsAfter, tableAfter}
 use Rattle.pieces.specs.Admissible.{admissible}
 use Rattle.pieces.specs.Best.{worstOfWay, chosen}
@@ -25,7 +25,7 @@ use Rattle.patch.specs.declared.Summarised.the-variants.{Summary as Summ
 use Rattle.patch.specs.declared.Removal.the-variants.{Done}
 use Rattle.patch.specs.Summing.{summaryGives, summaryNumber}
 use Rattle.patch.specs.Removing.{worstNow, removeAnswer, removeBytes, removeGives, removalNumber, Sound}
-use Rattle.patch.specs.Flipping.{flip32Answer, flip32Bytes, holdsFace, pairOf, threeRows, flip23Answer, flip23Bytes}
+use Rattle.patch.specs.Flipping.{flip32Answer, flip32Bytes, pairOf, threeRows, flip23Answer, flip23Bytes}
 
 -- ---- Demand 1
 -- "Every call ends with an answer, for every block and every edge or face number, and never relies on the caller having
@@ -99,7 +99,10 @@ pub record Demand2 : Type 0 where
   pub page : (block out : List ℕ) (e f : ℕ) → removeAnswer block out e f ≡ 0
       → let before = worstOfPatch (fieldsOf block) in
       let after = worstOfPatch (fieldsOf (removeBytes block out e f)) in
-      removeGives block out e f ≡ record { removal = Done (pageRow (shown before) (shown after)); ring = ringWith (siteOf (fieldsOf block) e f .ring) }
+      removeGives block out e f ≡ record {
+        removal = Done (pageRow (shown before) (shown after));
+        ring = ringWith (siteOf (fieldsOf block) e f .ring);
+      }
 
 -- ---- Demand 3
 -- "Take a valid block, an output block of the right length and an edge whose tetrahedra form one closed ring of 3 to 10, with

@@ -1,12 +1,12 @@
 -- Document 01, "Plain flips (no quality test)": from all inputs to the answer and every byte of the output.
 use Prim.Native.Nat.{ℕ, max}
-use mathlib.Core.Bool.{Bool, not}
+use mathlib.Core.Bool.{not}
 use mathlib.Core.List.{List, [], _∷_, _++_, map, foldr}
 use lib.Dec.{eqb, ltb}
 use lib.ListN.{length}
-use Rattle.lists.specs.Lists.{every, those, firstOr, has}
+use Rattle.lists.specs.Lists.{those, firstOr, has}
 use Rattle.mesh.specs.declared.Row.{Row}
-use Rattle.mesh.specs.Mesh.{numbers, holds, noRow, keepsMeshRule}
+use Rattle.mesh.specs.Mesh.{numbers, holdsFace, noRow, keepsMeshRule}
 use Rattle.mesh.specs.Tetrahedra.{arrangedFrom}
 use Rattle.block.specs.Layout.{Patch, maxRows, fieldsOf, bytesOf}
 use Rattle.block.specs.Answers.{Tests, firstRefusal, written}
@@ -31,10 +31,6 @@ unfoldable pub flip32Bytes : List ℕ → List ℕ → ℕ → ℕ → List ℕ
 flip32Bytes block out e f = written (flip32Answer block out e f) (bytesOf (patchAfter (siteOf (fieldsOf block) e f))) out
 
 -- ---- the 2-3 flip: a face in two rows
-
--- the row holds the three numbers of the face
-abbrev pub holdsFace : List ℕ → Row → Bool
-holdsFace face row = every (holds row) face
 
 -- the apex of a row over the face: its number that the face has not
 unfoldable pub apexOver : List ℕ → Row → ℕ

@@ -4,9 +4,8 @@ ghost use mathlib.Core.List.{[]};
 ghost use mathlib.Core.Path.{_≡_};
 ghost use lib.ListN.{length};
 ghost use Rattle.lists.specs.Lists.{those};
-ghost use Rattle.mesh.specs.Mesh.{rowSize, rowsIn};
+ghost use Rattle.mesh.specs.Mesh.{rowSize, rowsIn, holdsEdge};
 ghost use Rattle.block.specs.Layout.{maxRows};
-ghost use Rattle.ring.specs.Ring.{holdsEdge};
 ghost use Rattle.pieces.specs.Triangulation.{regionOf, rowsAfter};
 ghost use Rattle.pieces.specs.Filling.{siteIn};
 ghost use Rattle.patch.specs.Steps.{Ringed, Carries, rowsWith};
@@ -44,7 +43,7 @@ fn region_of(table: &[u8], n: usize, a: u8, b: u8) -> u8
 {
     for i in 0..n {
         let row = mesh::row_in(table, i);
-        if ring::holds_edge(row, a, b) {
+        if mesh::holds_edge(row, a, b) {
             return row.region;
         }
     }

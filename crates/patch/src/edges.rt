@@ -9,6 +9,7 @@ use block::BLOCK_BYTES;
 use block::BODY_BYTES;
 use block::ROWS_AT;
 use ring::Found;
+use ring::MAX_RING;
 use ring::Ring;
 
 // Answers 1 to 8 of a call with a block and an output block: both lengths before anything in the block.
@@ -52,7 +53,10 @@ pub fn no_ring(answer: Answer) -> Found
 {
     Found {
         answer,
-        ring: Ring { m: 0, v: [0; 10] },
+        ring: Ring {
+            m: 0,
+            v: [0; MAX_RING],
+        },
     }
 }
 

@@ -1,17 +1,16 @@
 // The 2-3 flip: a face in two rows becomes an edge in three.
 ghost use mathlib.Core.Path.{_≡_};
 ghost use mathlib.Core.Bool.{not};
-ghost use mathlib.Core.List.{[], _∷_, flatMap};
+ghost use mathlib.Core.List.{[], _∷_};
 ghost use Prim.Native.Nat.{_+_, _*_, _≤_, _<_, min, max};
 ghost use lib.ListN.{length};
 ghost use Rattle.lists.specs.Lists.{has};
-ghost use Rattle.mesh.specs.Mesh.{rowSize, rowBytes, rowsIn};
+ghost use Rattle.mesh.specs.Mesh.{rowSize, rowsIn, withRows};
 ghost use Rattle.block.specs.Layout.{maxRows};
 ghost use Rattle.block.specs.Answers.{answerOf};
-ghost use Rattle.output.specs.Output.{pasted};
 ghost use Rattle.ring.specs.Ring.{link, smallest, numbersWrong};
 ghost use Rattle.ring.specs.Found.{LinkedRow};
-ghost use Rattle.patch.specs.Flipping.{holdsFace, apexOver, flip23Answer, flip23Bytes};
+ghost use Rattle.patch.specs.Flipping.{apexOver, flip23Answer, flip23Bytes};
 ghost use Rattle.patch.specs.Pairing.{sharingIn, withRow, threeOf, Given};
 use crate::edges::blocks_answer;
 use block::Answer;
@@ -62,19 +61,6 @@ fn least(x: u8, y: u8, z: u8) -> u8
     ensures { λ r. ⌜ r ≡ smallest (x ∷ y ∷ z ∷ []) ⌝ }
 {
     lesser(y, lesser(z, x))
-}
-
-// The row holds the three numbers of the face.
-fn holds_face(row: Row, x: u8, y: u8, z: u8) -> bool
-    ensures { λ r. ⌜ r ≡ holdsFace (x ∷ y ∷ z ∷ []) row ⌝ }
-{
-    if !ring::row_holds(row, x) {
-        return false;
-    }
-    if !ring::row_holds(row, y) {
-        return false;
-    }
-    ring::row_holds(row, z)
 }
 
 // The face has not the number n.
@@ -175,7 +161,7 @@ fn share(table: &[u8], n: usize, x: u8, y: u8, z: u8) -> Sharing
     };
     for i in 0..n {
         let row = mesh::row_in(table, i);
-        if holds_face(row, x, y, z) {
+        if mesh::holds_face(row, x, y, z) {
             found = with_row(found, row, apex_over(row, x, y, z));
         }
     }
@@ -188,15 +174,15 @@ fn share(table: &[u8], n: usize, x: u8, y: u8, z: u8) -> Sharing
 fn put_three(rows: &mut [u8], at: usize, found: Sharing, u: u8)
     requires { ⌜ rowSize * (at + 3) ≤ length (now rows) ⌝ }
     requires { ⌜ LinkedRow (found .a) u (found .row) ⌝ }
-    ensures { λ _. ⌜ now (rows .exit) ≡ pasted (now (rows .entry)) (rowSize * at)
-        (flatMap rowBytes (threeOf found u (link (found .a) u (found .row) .0) (link (found .a) u (found .row) .1))) ⌝ }
+    ensures { λ _. ⌜ now (rows .exit) ≡ withRows (now (rows .entry)) at
+        (threeOf found u (link (found .a) u (found .row) .0) (link (found .a) u (found .row) .1)) ⌝ }
 {
     let a = found.a;
     let b = found.b;
     let region = found.region;
     let row = found.row;
     let after = ring::link_of(row, a, u);
-    output::put_row(
+    mesh::put_row(
         rows,
         at,
         Row {
@@ -207,7 +193,7 @@ fn put_three(rows: &mut [u8], at: usize, found: Sharing, u: u8)
             region,
         },
     );
-    output::put_row(
+    mesh::put_row(
         rows,
         at + 1,
         Row {
@@ -218,7 +204,7 @@ fn put_three(rows: &mut [u8], at: usize, found: Sharing, u: u8)
             region,
         },
     );
-    output::put_row(
+    mesh::put_row(
         rows,
         at + 2,
         Row {

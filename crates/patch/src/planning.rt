@@ -53,7 +53,8 @@ pub fn decide(
     ring: Ring,
 ) -> Plan
     requires { ⌜ Ringed (now coordinates) count (now table) n a b ring ⌝ }
-    ensures { λ r. ⌜ r ≡ planOf (patchIn (now (coordinates .entry)) count (now (table .entry)) n) (siteIn (now (coordinates .entry)) count (now (table .entry)) n a b) ⌝ }
+    ensures { λ r. ⌜ r ≡ planOf (patchIn (now (coordinates .entry)) count (now (table .entry)) n)
+        (siteIn (now (coordinates .entry)) count (now (table .entry)) n a b) ⌝ }
 {
     let m = ring.m as usize;
     if MAX_ROWS < n - m + 2 * (m - 2) {

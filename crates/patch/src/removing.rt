@@ -15,6 +15,7 @@ use block::Answer;
 use block::BODY_BYTES;
 use block::POINTS_AT;
 use block::ROWS_AT;
+use ring::MAX_RING;
 use ring::Ring;
 
 // What a removal gives and, if it is done, the rows afterwards.
@@ -30,7 +31,10 @@ fn refused(number: u8) -> Outcome
     Outcome {
         removed: Removed {
             removal: Removal::Refused(number),
-            ring: Ring { m: 0, v: [0; 10] },
+            ring: Ring {
+                m: 0,
+                v: [0; MAX_RING],
+            },
         },
         rows: no_rows(),
     }

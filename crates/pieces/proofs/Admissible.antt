@@ -198,7 +198,8 @@ ring-admissible site ring t whole three =
 -- an open chain: the closing side counts, each way that a new row uses it
 pub chain-admissible : (site : Site) → SoundChain site → (t : Tri) → span t ≡ m site - 1 → 3 ≤ m site
     → admissible site t
-    ≡ not (any (uses (aFace site 1 (m site))) (site .kept)) && not (any (uses (bFace site (m site) 1)) (site .kept)) && pieceAdmissible site 1 t
+    ≡ not (any (uses (aFace site 1 (m site))) (site .kept)) && not (any (uses (bFace site (m site) 1)) (site .kept))
+    && pieceAdmissible site 1 t
 chain-admissible site chain t whole three =
     let a = uses (aFace site 1 (m site)) in
     let b = uses (bFace site (m site) 1) in

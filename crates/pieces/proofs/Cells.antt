@@ -48,7 +48,8 @@ read-is (suc zero) num den h = ap some (parts-are Inverted num den (h (record { 
 read-is (suc (suc zero)) num den h = ap some (parts-are Flat num den (h (record { kind = Flat; num = num; den = den }) refl))
 read-is (suc (suc (suc n))) num den h = ap some (parts-are Upright num den (h (record { kind = Upright; num = num; den = den }) refl))
 
-pub read-upright : (kind num den : ℕ) → (kind ≡ 0 → ⊥) → (kind ≡ 1 → ⊥) → (kind ≡ 2 → ⊥) → readBest kind num den ≡ some (fromParts Upright num den)
+pub read-upright : (kind num den : ℕ) → (kind ≡ 0 → ⊥) → (kind ≡ 1 → ⊥) → (kind ≡ 2 → ⊥)
+    → readBest kind num den ≡ some (fromParts Upright num den)
 unfolding readBest
 read-upright zero num den a b c = absurd (a refl)
 read-upright (suc zero) num den a b c = absurd (b refl)
@@ -136,4 +137,5 @@ module _ (kinds nums dens : List ℕ) (used : List Bool) (i j : ℕ) where
           let k = known (omega (arith, nleb→lt (j - i) 1 (is-no (leb (j - i) 1) e))) in
           let at = cellAt i j in
           inner (getD used at false) read
-          ∙ ap₂ (λ u o. cond u none (Option·map (worseOf q) o)) (k .used) (read-is (getD kinds at 0) (getD nums at 0) (getD dens at 0) (k .fraction))
+          ∙ ap₂ (λ u o. cond u none (Option·map (worseOf q) o)) (k .used)
+          (read-is (getD kinds at 0) (getD nums at 0) (getD dens at 0) (k .fraction))

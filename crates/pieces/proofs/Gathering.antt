@@ -16,12 +16,11 @@ use Rattle.lists.proofs.Lists.{any-i, any-e, those-e, those-i, those-append, an
 use Rattle.lists.proofs.Numbers.{has-i, has-e}
 use Rattle.lists.proofs.Images.{flatMap-i, flatMap-e, flatMap-append}
 use Rattle.mesh.specs.declared.Row.{Row}
-use Rattle.mesh.specs.Mesh.{rowIn, rowsIn, Face, faces, uses, usesEitherWay, reversed}
+use Rattle.mesh.specs.Mesh.{rowIn, rowsIn, Face, faces, uses, usesEitherWay, reversed, holdsEdge}
 use Rattle.mesh.specs.Keys.{faceKey}
 use Rattle.mesh.proofs.Faces.{Turned, as-is, once, twice, same-turned, turned-same, uses-e, uses-i}
 use Rattle.mesh.proofs.Keys.{Small, key-same, same-key, faces-small}
 use Rattle.mesh.proofs.Tables.{Bytes, rows-more}
-use Rattle.ring.specs.Ring.{holdsEdge}
 use Rattle.pieces.specs.Gathered.{marked, keyed, keptOf, keptKeys, usedBy}
 
 -- gathering goes by parts
@@ -77,7 +76,8 @@ module _ (marks : List Bool) (a b : ℕ) (row : Row) where
 
 -- one row more
 pub kept-more : (table : List ℕ) (marks : List Bool) (a b i : ℕ)
-    → keptKeys marks (keptOf a b (rowsIn table (i + 1))) ≡ keptKeys marks (keptOf a b (rowsIn table i)) ++ keptKeys marks (keptOf a b (rowIn table i ∷ []))
+    → keptKeys marks (keptOf a b (rowsIn table (i + 1))) ≡ keptKeys marks (keptOf a b (rowsIn table i))
+    ++ keptKeys marks (keptOf a b (rowIn table i ∷ []))
 kept-more table marks a b i =
     let rows = rowsIn table i in
     let kept = keptOf a b rows in
@@ -152,7 +152,8 @@ module _ (marks : List Bool) (rows : List Row) (bytes : (row : Row) → List·Me
           let g = used .0 in
           let is-marked = marked-turned marks f g (used .2) h in
           let in-those = those-i (marked marks) (flatMap faces rows) (flatMap-i faces rows (at .1) (used .1)) is-marked in
-          has-i (keptKeys marks rows) (subst (λ k. List·Memᴰ k (keptKeys marks rows)) (sym (same-key f g (turned-same f g (used .2)))) (Memᴰ·map faceKey in-those))
+          has-i (keptKeys marks rows)
+          (subst (λ k. List·Memᴰ k (keptKeys marks rows)) (sym (same-key f g (turned-same f g (used .2)))) (Memᴰ·map faceKey in-those))
 
   -- looked up either way round
   pub used-kept : (f : Face) → Small f → T (marked marks f) → usedBy (keptKeys marks rows) f ≡ any (usesEitherWay f) rows

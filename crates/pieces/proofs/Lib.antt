@@ -20,6 +20,5 @@ pub mod Gathering
 pub mod Looking
 pub mod Sites
 pub mod Stored
-pub mod Pasting
 pub mod Written
 pub mod Optimal

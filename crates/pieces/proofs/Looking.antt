@@ -16,7 +16,8 @@ use Rattle.pieces.specs.Triangulation.{v, twoRows}
 use Rattle.pieces.specs.Admissible.{keptUses, triangleFace}
 use Rattle.pieces.specs.Candidates.{triangleWorst, beside, candidate, keep, leading}
 use Rattle.pieces.specs.Gathered.{usedBy}
-use Rattle.pieces.specs.Filling.{besideOf, bestIn, worstOver, candidateOver, readSide, twoOver, OnRim, end-a, end-b, ring-point, Given, KnownIn, Smaller}
+use Rattle.pieces.specs.Filling.{besideOf, bestIn, worstOver, candidateOver, readSide, twoOver, OnRim, end-a, end-b, ring-point}
+use Rattle.pieces.specs.Filling.{Given, KnownIn, Smaller}
 use Rattle.pieces.proofs.Cells.{side-is}
 
 -- one apex more
@@ -58,7 +59,18 @@ module _ {site : Site} {coordinates : List ℕ} {rim : Rim} {keys : List ℕ} (g
   worst-is : worstOver coordinates rows ≡ triangleWorst site i k j
   unfolding worstOver triangleWorst worst twoRows rowQuality
   worst-is =
-      rw (given .a, given .b, x-is, y-is, z-is, given .places end-a, given .places end-b, given .places on-x, given .places on-y, given .places on-z)
+      rw (
+        given .a,
+        given .b,
+        x-is,
+        y-is,
+        z-is,
+        given .places end-a,
+        given .places end-b,
+        given .places on-x,
+        given .places on-y,
+        given .places on-z,
+      )
 
   used-is : usedBy keys (rows .x, rows .y, rows .z) ≡ keptUses site (triangleFace site (i, k, j))
   used-is = rw (x-is, y-is, z-is) (given .uses on-x on-y on-z)
@@ -69,7 +81,8 @@ module _ {site : Site} {coordinates : List ℕ} {rim : Rim} {keys : List ℕ} (g
   unfolding candidateOver candidate
   candidate-is kinds nums dens used smaller =
       ap₂ (λ u s. cond u none s) used-is
-      (ap over (ap (besideOf left) worst-is ∙ side-is kinds nums dens used i k site (triangleWorst site i k j) left-known) ∙ sides (beside site kept i k (triangleWorst site i k j)))
+      (ap over (ap (besideOf left) worst-is ∙ side-is kinds nums dens used i k site (triangleWorst site i k j) left-known)
+      ∙ sides (beside site kept i k (triangleWorst site i k j)))
     where
       left : Side
       left = readSide kinds nums dens used i k

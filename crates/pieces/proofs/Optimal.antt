@@ -25,13 +25,14 @@ use Rattle.pieces.proofs.Apex.{Reaches, apex-between, apex-reaches, ape
 use Rattle.pieces.proofs.Cells.{kept-is, apex-is, read-is}
 
 -- nothing is as good as a mark but a mark
-none-best : (o : Option Quality) → T (sameBest none o) → o ≡ none
+pub none-best : (o : Option Quality) → T (sameBest none o) → o ≡ none
 unfolding sameBest
 none-best none t = refl
 none-best (some q) t = absurd t
 
 -- before the apex none reaches the best worst
-before : (site : Site) (i j : ℕ) {k : ℕ} → apex site i j ≡ some k → (l : ℕ) → i < l → l < k → T (not (reaches site i j (bestWorst site i j) l))
+before : (site : Site) (i j : ℕ) {k : ℕ} → apex site i j ≡ some k → (l : ℕ) → i < l → l < k
+    → T (not (reaches site i j (bestWorst site i j) l))
 unfolding apex
 before site i j e l a b = first-least (reaches site i j (bestWorst site i j)) (suc i) (j - i - 1) e l a b
 
@@ -92,7 +93,8 @@ module _ {site : Site} {table : Pieces} (keeps : Keeps site table) where
         left-ends = at .cuts .at-k;
         right-ends = at .cuts .at-j;
         admissible = at .admissible;
-        reaches = as-good-goes-on (worstOfWay site i (cut (at .l) (at .r))) p q fraction (as-good (at .reached)) (as-good-back q p (as-good same));
+        reaches = as-good-goes-on (worstOfWay site i (cut (at .l) (at .r))) p q fraction (as-good (at .reached))
+            (as-good-back q p (as-good same));
         smallest = least;
       },
     )
@@ -123,7 +125,8 @@ module _ {site : Site} {table : Pieces} (keeps : Keeps site table) where
         least l r s low a =
             let w = worstOfWay site i (cut l r) in
             not-T (asGood w q) (λ good.
-            let as-top = from-as-good w p (as-good-goes-on w q p (record { over = keeps .fractions i j start long end q e }) good (as-good same)) in
+            let as-top = from-as-good w p
+            (as-good-goes-on w q p (record { over = keeps .fractions i j start long end q e }) good (as-good same)) in
             let reached = reach-i site (way (cut l r) s a) refl as-top in
             T-not (reaches site i j (bestWorst site i j) (i + span l))
             (before site i j (own .1) (i + span l) (omega (arith, span-over l)) low)
@@ -131,10 +134,12 @@ module _ {site : Site} {table : Pieces} (keeps : Keeps site table) where
 
     -- a piece with the mark has no apex
     pub mark-no-apex : keptBest table i j ≡ none → keptApex table i j ≡ none
-    mark-no-apex e = keeps .apexes i j start long end ∙ mark-apex site i j (none-best (bestWorst site i j) (subst (λ o. T (sameBest o (bestWorst site i j))) e (keeps .best i j start long end)))
+    mark-no-apex e = keeps .apexes i j start long end ∙ mark-apex site i j
+        (none-best (bestWorst site i j) (subst (λ o. T (sameBest o (bestWorst site i j))) e (keeps .best i j start long end)))
 
     -- what is read from the cell is what it keeps
-    pub read-kept : readBest (getD (table .kinds) (cellAt i j) 0) (getD (table .nums) (cellAt i j) 0) (getD (table .dens) (cellAt i j) 0) ≡ keptBest table i j
+    pub read-kept : readBest (getD (table .kinds) (cellAt i j) 0) (getD (table .nums) (cellAt i j) 0) (getD (table .dens) (cellAt i j) 0)
+        ≡ keptBest table i j
     read-kept =
         let at = cellAt i j in
         read-is (getD (table .kinds) at 0) (getD (table .nums) at 0) (getD (table .dens) at 0)
@@ -159,7 +164,8 @@ module _ {site : Site} {table : Pieces} (keeps : Keeps site table) where
       within l e b (suc k) h = let between = apex-between site (sym h ∙ apex-over (suc k) (omega arith)) in (between .1, λ n. between .0)
 
   -- points, region and apexes are the site's
-  pub kept-follows : Follows site (table .apexes) (record { a = site .a; b = site .b; v = table .ring }) (regionOf (site .removed)) 1 (m site)
+  pub kept-follows : Follows site (table .apexes) (record { a = site .a; b = site .b; v = table .ring })
+      (regionOf (site .removed)) 1 (m site)
   kept-follows =
       record {
         a = refl;

@@ -9,12 +9,11 @@ use lib.Dec.{T}
 use lib.ListN.{length, length-append}
 use Rattle.lists.specs.Lists.{any, those}
 use Rattle.lists.proofs.Lists.{any-e, those-e, those-i, those-split}
-use Rattle.measure.specs.declared.Point.{Point}
 use Rattle.measure.specs.Measure.{worse}
-use Rattle.measure.proofs.Order.{Fraction, Fractions, worst-is}
+use Rattle.measure.proofs.Order.{worst-is}
 use Rattle.mesh.specs.declared.Row.{Row}
-use Rattle.mesh.specs.Mesh.{rowQuality}
-use Rattle.ring.specs.Ring.{Site, m, holdsEdge}
+use Rattle.mesh.specs.Mesh.{rowQuality, holdsEdge}
+use Rattle.ring.specs.Ring.{Site, m}
 use Rattle.ring.specs.Sound.{SoundRing}
 use Rattle.pieces.specs.Triangulation.{Tri, side, cut, span, ways, newRows, tableAfter, rowsAfter}
 use Rattle.pieces.specs.Admissible.{admissible, pieceAdmissible}
@@ -22,7 +21,7 @@ use Rattle.pieces.specs.Best.{worstOfWay, ringWays, chosen}
 use Rattle.pieces.proofs.Admissible.{ring-admissible}
 use Rattle.pieces.proofs.Triangulation.{rows-count}
 use Rattle.pieces.proofs.Ways.{ways-span, ways-all}
-use Rattle.pieces.proofs.Worsts.{row-fraction, worst-there}
+use Rattle.pieces.proofs.Worsts.{rows-fractions, worst-there}
 use Rattle.pieces.proofs.Chosen.{chosen-optimal}
 
 -- t triangulates the ring and keeps the mesh rule
@@ -34,12 +33,6 @@ pub record RingWay (site : Site) (t : Tri) : Type 0 where
 pub record BestWay (site : Site) (c : Tri) : Type 0 where
   pub way : RingWay site c
   pub none-better : (t : Tri) → RingWay site t → T (not (worse (worstOfWay site 1 c) (worstOfWay site 1 t)))
-
--- the qualities of rows are fractions
-pub rows-fractions : (points : List Point) (rows : List Row) → Fractions (map (rowQuality points) rows)
-rows-fractions points rows q k =
-    let (row, i, same) = Memᴰ·of-map (rowQuality points) rows k in
-    subst Fraction same (row-fraction points row)
 
 -- ---- the list of ways
 

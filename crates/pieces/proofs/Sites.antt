@@ -14,11 +14,11 @@ use Rattle.lists.proofs.Tests.{is-yes, and-i}
 use Rattle.lists.proofs.Lists.{those-e}
 use Rattle.measure.specs.Measure.{pointIn, pointsIn}
 use Rattle.measure.proofs.Points.{points-at}
-use Rattle.mesh.specs.Mesh.{rowsIn, place, noPoint, usesEitherWay}
+use Rattle.mesh.specs.Mesh.{rowsIn, place, noPoint, usesEitherWay, holdsEdge}
 use Rattle.mesh.proofs.Keys.{Small}
 use Rattle.mesh.proofs.Tables.{rows-bytes}
 use Rattle.ring.specs.declared.Ring.{Ring}
-use Rattle.ring.specs.Ring.{Site, siteOf, holdsEdge, m, maxRing, ringWith}
+use Rattle.ring.specs.Ring.{Site, siteOf, m, maxRing, ringWith}
 use Rattle.pieces.specs.declared.Filling.{Filling}
 use Rattle.pieces.specs.declared.Pieces.{Pieces}
 use Rattle.pieces.specs.declared.Rim.{Rim}
@@ -54,7 +54,8 @@ module _ (coordinates : List ℕ) (count : ℕ) (table : List ℕ) (n a b : ℕ)
 
 -- ---- what is ready is given
 
-module _ {coordinates : List ℕ} {count : ℕ} {table : List ℕ} {n a b : ℕ} {ring : Ring} (ready : Ready coordinates count table n a b ring) where
+module _ {coordinates : List ℕ} {count : ℕ} {table : List ℕ} {n a b : ℕ} {ring : Ring}
+    (ready : Ready coordinates count table n a b ring) where
   abbrev site : Site
   site = siteIn coordinates count table n a b
 
@@ -78,14 +79,16 @@ module _ {coordinates : List ℕ} {count : ℕ} {table : List ℕ} {n a b : ℕ}
       ap (λ k. getD (ring .v) k 0) back ∙ front i (omega arith)
 
   on-below : {k : ℕ} → OnRim site k → k < count
-  on-below end-a = subst (λ k. k < count) (sym (a-is coordinates count table n a b (ready .ordered))) (omega (arith, ready .ordered, ready .below))
+  on-below end-a = subst (λ k. k < count) (sym (a-is coordinates count table n a b (ready .ordered)))
+      (omega (arith, ready .ordered, ready .below))
   on-below end-b = subst (λ k. k < count) (sym (b-is coordinates count table n a b (ready .ordered))) (ready .below)
   on-below (ring-point zero s h) = absurd (omega arith)
   on-below (ring-point (suc i) s h) = ready .ring-below i (omega arith)
 
   places-are : {k : ℕ} → OnRim site k → pointIn coordinates k ≡ place (site .points) k
   places-are {k} on =
-      sym (ap (λ ps. place ps k) (points-are coordinates count table n a b (ready .ordered)) ∙ points-at coordinates count k noPoint (on-below on))
+      sym (ap (λ ps. place ps k) (points-are coordinates count table n a b (ready .ordered))
+      ∙ points-at coordinates count k noPoint (on-below on))
 
   -- the places after vm hold 0, which is a point as well
   v-below : (i : ℕ) → i < maxRing → getD (ring .v) i 0 < count
@@ -112,8 +115,10 @@ module _ {coordinates : List ℕ} {count : ℕ} {table : List ℕ} {n a b : ℕ}
 
   module _ {marks : List Bool} (are : Marks marks rim (ring .m)) (bytes : (j : ℕ) → getD table j 0 < 256) where
     on-marked : {k : ℕ} → OnRim site k → T (getD marks k false)
-    on-marked end-a = subst (λ k. T (getD marks k false)) (sym (a-is coordinates count table n a b (ready .ordered))) (is-yes (getD marks a false) (are .a))
-    on-marked end-b = subst (λ k. T (getD marks k false)) (sym (b-is coordinates count table n a b (ready .ordered))) (is-yes (getD marks b false) (are .b))
+    on-marked end-a = subst (λ k. T (getD marks k false)) (sym (a-is coordinates count table n a b (ready .ordered)))
+        (is-yes (getD marks a false) (are .a))
+    on-marked end-b = subst (λ k. T (getD marks k false)) (sym (b-is coordinates count table n a b (ready .ordered)))
+        (is-yes (getD marks b false) (are .b))
     on-marked (ring-point zero s h) = absurd (omega arith)
     on-marked (ring-point (suc i) s h) =
         subst (λ k. T (getD marks k false)) (front i (omega arith))

@@ -12,10 +12,10 @@ use Rattle.lists.proofs.Tests.{and-i}
 use Rattle.lists.proofs.Lists.{every-append, those-e, every-those}
 use Rattle.lists.proofs.Counts.{count-split, count-member}
 use Rattle.mesh.specs.declared.Row.{Row}
-use Rattle.mesh.specs.Mesh.{Face, uses, numbersFit}
+use Rattle.mesh.specs.Mesh.{Face, uses, numbersFit, holdsEdge}
 use Rattle.mesh.proofs.Counted.{hits}
 use Rattle.mesh.proofs.Rule.{keeps-fits, keeps-hits, proper-fits}
-use Rattle.ring.specs.Ring.{Site, Link, holdsEdge, link, m}
+use Rattle.ring.specs.Ring.{Site, Link, link, m}
 use Rattle.ring.specs.Sound.{SoundChain, SoundRing}
 use Rattle.ring.proofs.Linking.{link-outer-a, link-outer-b, links-fit}
 use Rattle.pieces.specs.Triangulation.{Tri, side, cut, v, newRows}
@@ -58,7 +58,8 @@ module _ (site : Site) (sound : SoundChain site) where
       rw (sound .going, sound .staying) (omega (arith, keeps-hits (countOf site) (sound .table) (sound .meshed) f))
 
   -- a face that the row of each link uses, no kept row uses
-  removed-own : (face : Link → Face) → ((row : Row) → T (holdsEdge (site .a) (site .b) row) → T (uses (face (link (site .a) (site .b) row)) row))
+  removed-own : (face : Link → Face)
+      → ((row : Row) → T (holdsEdge (site .a) (site .b) row) → T (uses (face (link (site .a) (site .b) row)) row))
       → {l : Link} → List·Memᴰ l (site .links) → keptUsers site (face l) ≡ 0
   removed-own face has {l} k =
       let found = Memᴰ·of-map (link (site .a) (site .b)) (site .removed) (rw (sound .linked) at k) in
@@ -68,7 +69,8 @@ module _ (site : Site) (sound : SoundChain site) where
       omega (arith, table-users (face l), count-member (uses (face l)) (site .removed) (found .1) used)
 
   -- the outer faces of a link are the removed rows' own
-  pub outer-own : {l : Link} → List·Memᴰ l (site .links) → (keptUsers site (site .a, l .1, l .0) ≡ 0) × (keptUsers site (site .b, l .0, l .1) ≡ 0)
+  pub outer-own : {l : Link} → List·Memᴰ l (site .links)
+      → (keptUsers site (site .a, l .1, l .0) ≡ 0) × (keptUsers site (site .b, l .0, l .1) ≡ 0)
   outer-own k = (
     removed-own (λ l. (site .a, l .1, l .0)) (link-outer-a (site .a) (site .b) ends-differ) k,
     removed-own (λ l. (site .b, l .0, l .1)) (link-outer-b (site .a) (site .b) ends-differ) k,
@@ -78,7 +80,8 @@ module _ (site : Site) (sound : SoundChain site) where
 
   link-apart : {l : Link} → List·Memᴰ l (site .links) → PointApart site (l .0) × PointApart site (l .1)
   link-apart k =
-      let f = links-fit (site .a) (site .b) ends-differ (countOf site) (sound .table) (sound .meshed) (rw (sound .linked, sound .going) at k) in (
+      let f = links-fit (site .a) (site .b) ends-differ (countOf site) (sound .table) (sound .meshed)
+      (rw (sound .linked, sound .going) at k) in (
         record { below-a = f .below-a; below-b = f .below-b; below = f .below-v; not-a = f .a-v; not-b = f .b-v },
         record { below-a = f .below-a; below-b = f .below-b; below = f .below-w; not-a = f .a-w; not-b = f .b-w },
       )

@@ -25,8 +25,8 @@ use Rattle.pieces.specs.Admissible.{keptUses, diagonalFaces}
 use Rattle.pieces.specs.Best.{bestWorst, apex, cellAt, sameBest}
 use Rattle.pieces.specs.Candidates.{candidate, bestFound}
 use Rattle.pieces.specs.Gathered.{usedBy}
-use Rattle.pieces.specs.Filling.{Arrays, Blank, Done, Given, Known, KnownIn, Smaller, apexIn, bestIn, cellOf, cells, choiceOf, coded, codedApex, kindCode}
-use Rattle.pieces.specs.Filling.{OnRim, end-a, end-b, ring-point}
+use Rattle.pieces.specs.Filling.{Arrays, Blank, Done, Given, Known, KnownIn, Smaller, apexIn, bestIn, cellOf, cells, choiceOf, coded}
+use Rattle.pieces.specs.Filling.{codedApex, kindCode, OnRim, end-a, end-b, ring-point}
 use Rattle.pieces.proofs.Apex.{apex-between}
 use Rattle.pieces.proofs.Cells.{cell-in, cell-apart}
 use Rattle.pieces.proofs.Leading.{Led}
@@ -96,7 +96,8 @@ module _ {site : Site} (kinds nums dens : List ℕ) (used : List Bool) {i j : �
 -- whether a kept row uses a face of a or b with the diagonal, by the keys
 pub closing-is : {site : Site} {coordinates : List ℕ} {rim : Rim} {keys : List ℕ} → Given site coordinates rim keys
     → {i j : ℕ} → 1 ≤ i → i < j → j ≤ m site
-    → usedBy keys (rim .a, getD (rim .v) (i - 1) 0, getD (rim .v) (j - 1) 0) || usedBy keys (rim .b, getD (rim .v) (i - 1) 0, getD (rim .v) (j - 1) 0)
+    → usedBy keys (rim .a, getD (rim .v) (i - 1) 0, getD (rim .v) (j - 1) 0)
+    || usedBy keys (rim .b, getD (rim .v) (i - 1) 0, getD (rim .v) (j - 1) 0)
     ≡ any (keptUses site) (diagonalFaces site (i, j))
 unfolding any
 closing-is {site} given {i} {j} start long end =
@@ -168,7 +169,8 @@ module _ {site : Site} {filling : Filling} {i j : ℕ} (whole : Whole filling)
   -- (l,e) is another cell
   other : (l e : ℕ) → i ≤ l → l + 2 ≤ e → e ≤ m site → (l ≡ i → e < j) → cellAt l e ≡ cellAt i j → ⊥
   other l e a b c d s =
-      let apart = cell-apart l e i j (omega arith) (omega arith) (omega arith) (omega arith) start (omega arith) (omega arith) (omega arith) s in
+      let apart = cell-apart l e i j (omega arith) (omega arith) (omega arith) (omega arith) start (omega arith)
+      (omega arith) (omega arith) s in
       omega (arith, d (apart .0), apart .1)
 
   own-known : KnownIn site (next .kinds) (next .nums) (next .dens) (next .used) i j
@@ -187,7 +189,8 @@ module _ {site : Site} {filling : Filling} {i j : ℕ} (whole : Whole filling)
       ap codedApex (getD-set-same (filling .apexes) (cellAt i j) (cellOf choice .apex) 0 (omega (arith, whole .all-apexes, in-range)))
       ∙ apex-stored (filling .kinds) (filling .nums) (filling .dens) (filling .used) long (upto-smaller end upto) choice is
 
-  other-known : (l e : ℕ) → i ≤ l → l + 2 ≤ e → e ≤ m site → (l ≡ i → e < j) → KnownIn site (next .kinds) (next .nums) (next .dens) (next .used) l e
+  other-known : (l e : ℕ) → i ≤ l → l + 2 ≤ e → e ≤ m site → (l ≡ i → e < j)
+      → KnownIn site (next .kinds) (next .nums) (next .dens) (next .used) l e
   other-known l e a b c d =
       let at = cellAt i j in
       let there = cellAt l e in
@@ -202,7 +205,8 @@ module _ {site : Site} {filling : Filling} {i j : ℕ} (whole : Whole filling)
 
   other-apex : (l e : ℕ) → i ≤ l → l + 2 ≤ e → e ≤ m site → (l ≡ i → e < j) → apexIn (next .apexes) l e ≡ apex site l e
   other-apex l e a b c d =
-      ap codedApex (getD-set-other (filling .apexes) (cellAt i j) (cellAt l e) (cellOf choice .apex) 0 (other l e a b c d)) ∙ upto .apexes l e a b c d
+      ap codedApex (getD-set-other (filling .apexes) (cellAt i j) (cellAt l e) (cellOf choice .apex) 0 (other l e a b c d))
+      ∙ upto .apexes l e a b c d
 
   -- the piece (i,j) itself, or one filled before
   by-cell : (P : ℕ → ℕ → Type 0) → P i j → ((l e : ℕ) → i ≤ l → l + 2 ≤ e → e ≤ m site → (l ≡ i → e < j) → P l e)
@@ -228,7 +232,8 @@ module _ {site : Site} {filling : Filling} {i j : ℕ} (whole : Whole filling)
 -- ---- cells that are no piece's
 
 -- no piece is stored in a cell that is no piece's
-pub blank-put : (filling : Filling) (cell : Cell) (closing : Bool) {size i j at : ℕ} → at ≡ cellAt i j → 1 ≤ i → i + 2 ≤ j → j ≤ size → size ≤ maxRing
+pub blank-put : (filling : Filling) (cell : Cell) (closing : Bool) {size i j at : ℕ} → at ≡ cellAt i j → 1 ≤ i → i + 2 ≤ j
+    → j ≤ size → size ≤ maxRing
     → Blank (filling .kinds) (filling .nums) (filling .dens) (filling .apexes) size
     → let next = put filling at cell closing in Blank (next .kinds) (next .nums) (next .dens) (next .apexes) size
 blank-put filling cell closing {size} {i} {j} {at} s start long end short blank l e a b c d no-piece =

@@ -65,7 +65,8 @@ module _ (site : Site) where
       record { p = site .a; q = v site i; r = v site (i + span l); s = v site (i + span l + span r); region = regionOf (site .removed) } in
       let u : Row =
       record { p = v site i; q = v site (i + span l); r = v site (i + span l + span r); s = site .b; region = regionOf (site .removed) } in
-      ap (λ (rows : List Row). totalD (site .points) (t ∷ u ∷ rows)) (flatMap-append (twoRows site) (triangles i l) (triangles (i + span l) r))
+      ap (λ (rows : List Row). totalD (site .points) (t ∷ u ∷ rows))
+      (flatMap-append (twoRows site) (triangles i l) (triangles (i + span l) r))
       ∙ two-and (site .points) t u (newRows site i l) (newRows site (i + span l) r)
 
   -- the sides of one triangle, and what the two pieces leave of theirs
@@ -91,7 +92,8 @@ module _ (site : Site) where
       let a = place (site .points) (site .a) in
       let b = place (site .points) (site .b) in
       ring-from
-      (D a b (at i) (at k) ∷ D a b (at k) (at j) ∷ D a b (at j) (at i) ∷ D a b (at i) (at j) ∷ D a (at i) (at k) (at j) ∷ D (at i) (at k) (at j) b ∷ [])
+      (D a b (at i) (at k) ∷ D a b (at k) (at j) ∷ D a b (at j) (at i) ∷ D a b (at i) (at j) ∷ D a (at i) (at k) (at j)
+      ∷ D (at i) (at k) (at j) b ∷ [])
       (var 4 :+ var 5 :+ var 3) (var 0 :+ var 1)
       (same (var 4 :+ var 5) (var 0 :+ var 1 :+ var 2) (sym (five-points a b (at i) (at k) (at j)))
       ⊹ same (var 2 :+ var 3) (con (pos 0)) (turned-over a b (at j) (at i)))
@@ -106,6 +108,7 @@ module _ (site : Site) where
       ∙ step (totalD (site .points) (newRows site i (cut l r))) (totalD (site .points) (newRows site i l))
       (totalD (site .points) (newRows site (i + span l) r))
       (chainD i l) (chainD (i + span l) r)
-      (linkD (v site i) (v site (i + span l))) (linkD (v site (i + span l)) (v site (i + span l + span r))) (linkD (v site i) (v site (i + span l + span r)))
+      (linkD (v site i) (v site (i + span l))) (linkD (v site (i + span l)) (v site (i + span l + span r)))
+      (linkD (v site i) (v site (i + span l + span r)))
       (twoD i (i + span l) (i + span l + span r))
       (triangle i (i + span l) (i + span l + span r)) (total-cut i l r) (total-piece i l) (total-piece (i + span l) r)

@@ -32,7 +32,8 @@ end-more i (cut l r) = omega (arith, end-more i l, end-more (endOf i l) r)
 
 -- ---- its triangles and rows
 
-pub triangles-cut : (i : ℕ) (l r : Tri) → triangles i (cut l r) ≡ (i, endOf i l, endOf (endOf i l) r) ∷ (triangles i l ++ triangles (endOf i l) r)
+pub triangles-cut : (i : ℕ) (l r : Tri)
+    → triangles i (cut l r) ≡ (i, endOf i l, endOf (endOf i l) r) ∷ (triangles i l ++ triangles (endOf i l) r)
 unfolding triangles
 triangles-cut i l r = rw (end-span (endOf i l) r, end-span i l)
 
@@ -86,7 +87,8 @@ module _ (site : Site) where
   triangleFaces i t = map (triangleFace site) (triangles i t)
 
   triangles-clear : (i : ℕ) (l r : Tri) → clear (triangleFaces i (cut l r))
-      ≡ not (keptUses site (ringFace site i (endOf i l) (endOf (endOf i l) r))) && (clear (triangleFaces i l) && clear (triangleFaces (endOf i l) r))
+      ≡ not (keptUses site (ringFace site i (endOf i l) (endOf (endOf i l) r)))
+      && (clear (triangleFaces i l) && clear (triangleFaces (endOf i l) r))
   unfolding any
   triangles-clear i l r =
       let k = endOf i l in
@@ -106,7 +108,8 @@ module _ (site : Site) where
   unfolding closingFree closingSides diagonals flatMap any
   closing-clear i side = refl
   closing-clear i (cut l r) =
-      rw (end-span (endOf i l) r, end-span i l) (clear-append (diagonalFaces site (i, i + span l + span r)) (facesWith (diagonals i (cut l r))))
+      rw (end-span (endOf i l) r, end-span i l)
+      (clear-append (diagonalFaces site (i, i + span l + span r)) (facesWith (diagonals i (cut l r))))
 
   diagonals-clear : (i : ℕ) (l r : Tri) → clear (facesWith (diagonals i (cut l r)))
       ≡ (closingFree i l && clear (facesWith (diagonals i l))) && (closingFree (endOf i l) r && clear (facesWith (diagonals (endOf i l) r)))

@@ -47,7 +47,8 @@ pub triangles-within : (i : ℕ) (t : Tri) {x : Triangle} → List·Memᴰ x (tr
 unfolding triangles span
 triangles-within i side m = absurd (List·Memᴰ·not-nil m)
 triangles-within i (cut l r) {x} m =
-    go (List·Memᴰ·cases-cons m) (λ m. both (List·Memᴰ·append-cases (triangles i l) m) (triangles-within i l) (triangles-within (i + span l) r))
+    go (List·Memᴰ·cases-cons m)
+    (λ m. both (List·Memᴰ·append-cases (triangles i l) m) (triangles-within i l) (triangles-within (i + span l) r))
   where
     both : List·Memᴰ x (triangles i l) ⊎ List·Memᴰ x (triangles (i + span l) r) → (List·Memᴰ x (triangles i l) → Within i (i + span l) x)
         → (List·Memᴰ x (triangles (i + span l) r) → Within (i + span l) (i + span l + span r) x) → Within i (i + (span l + span r)) x
@@ -55,7 +56,8 @@ triangles-within i (cut l r) {x} m =
     both (inr m) f g = omega (arith, g m)
 
     go : (x ≡ (i, i + span l, i + span l + span r)) ⊎ List·Memᴰ x (triangles i l ++ triangles (i + span l) r)
-        → (List·Memᴰ x (triangles i l ++ triangles (i + span l) r) → Within i (i + (span l + span r)) x) → Within i (i + (span l + span r)) x
+        → (List·Memᴰ x (triangles i l ++ triangles (i + span l) r) → Within i (i + (span l + span r)) x)
+        → Within i (i + (span l + span r)) x
     go (inl e) f = rw e (omega (arith, triangles-more i l, triangles-more (i + span l) r))
     go (inr m) f = f m
 
@@ -108,7 +110,8 @@ module _ (d : ℕ × ℕ) where
   unfolding bordered triangles those
   bordered-side i = omega arith
 
-  bordered-cut : (i : ℕ) (l r : Tri) → bordered i (cut l r) ≡ bordered i l + bordered (endOf i l) r + 2 * ind (sameSide d (i, endOf (endOf i l) r))
+  bordered-cut : (i : ℕ) (l r : Tri)
+      → bordered i (cut l r) ≡ bordered i l + bordered (endOf i l) r + 2 * ind (sameSide d (i, endOf (endOf i l) r))
   unfolding bordered
   bordered-cut i l r =
       let k = endOf i l in
@@ -173,7 +176,13 @@ module _ (j : ℕ) where
   after : (i : ℕ) (t : Tri) → endOf i t ≤ j → bordered (j, suc j) i t ≡ 0
   after i side h = omega (arith, bordered-side (j, suc j) i, side-no (j, suc j) (i, suc i) (λ e. omega arith))
   after i (cut l r) h =
-      omega (arith, bordered-cut (j, suc j) i l r, no-closing i l r, after i l (omega (arith, end-more (endOf i l) r)), after (endOf i l) r h)
+      omega (
+        arith,
+        bordered-cut (j, suc j) i l r,
+        no-closing i l r,
+        after i l (omega (arith, end-more (endOf i l) r)),
+        after (endOf i l) r h,
+      )
 
   inside : (i : ℕ) (t : Tri) → i ≤ j → j < endOf i t → bordered (j, suc j) i t ≡ 1
   inside i side g h = omega (arith, bordered-side (j, suc j) i, side-yes (j, suc j) (i, suc i) (omega arith) (omega arith))

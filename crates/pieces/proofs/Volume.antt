@@ -1,56 +1,33 @@
 -- Law 5: whatever triangulation of the ring is carried out, the total D stays. The removed rows' D are those of their links,
 -- the links are the sides of the ring, and the new rows' total is the sum over the sides.
-use Prim.Native.Nat.{ℕ, zero, suc, _+_, _-_, _≤_, _<_}
+use Prim.Native.Nat.{ℕ, suc, _+_, _-_, _≤_, _<_}
 use mathlib.Core.Bool.{not}
-use mathlib.Core.List.{List, [], _∷_, _++_, map, List·Memᴰ, List·Memᴰ·head, List·Memᴰ·tail, Memᴰ·of-map, map-append}
+use mathlib.Core.List.{List, [], _∷_, map, List·Memᴰ, Memᴰ·of-map, map-append}
 use mathlib.Core.Path.{_≡_, refl, sym, ap, _∙_, subst}
 use native.Mathlib.Omega.{arith}
 use lib.Dec.{T}
-use lib.IntN.{ℤ, pos, negℤ, _+ℤ_, +ℤ-idl, +ℤ-idr, +ℤ-assoc, +ℤ-comm, +ℤ-invr}
+use lib.IntN.{ℤ, pos, negℤ, _+ℤ_, +ℤ-idr, +ℤ-comm, +ℤ-invr}
 use lib.ListN.{length, length-map}
 use Rattle.algebra.proofs.Normal.{var, con, _:+_, norm, same, _⊹_, ring-from}
 use Rattle.lists.specs.Lists.{those, numbersFrom}
 use Rattle.lists.proofs.Tests.{and-l, and-r}
 use Rattle.lists.proofs.Lists.{those-e}
-use Rattle.lists.proofs.Sums.{Single, none, one-more, sumOver, sum-same}
+use Rattle.lists.proofs.Sums.{Single, one-more, sumOver, sum-append, sum-through, sum-same, single-map}
 use Rattle.lists.proofs.Numbers.{numbers-e, numbers-length, numbers-append}
 use Rattle.lists.proofs.Places.{in-cases}
 use Rattle.measure.specs.Measure.{D}
 use Rattle.measure.proofs.Identities.{D-kept, D-exchanged, pqsr}
 use Rattle.mesh.specs.declared.Row.{Row}
-use Rattle.mesh.specs.Mesh.{holds, place, rowD, totalD}
+use Rattle.mesh.specs.Mesh.{holds, holdsEdge, place, rowD, totalD}
 use Rattle.mesh.specs.Tetrahedra.{arrangedFrom}
 use Rattle.mesh.proofs.Places.{arranged-from}
 use Rattle.mesh.proofs.Measured.{even-D, total-split}
-use Rattle.ring.specs.Ring.{Site, Link, holdsEdge, link, m}
+use Rattle.ring.specs.Ring.{Site, Link, link, m}
 use Rattle.ring.specs.Sound.{SoundRing}
 use Rattle.pieces.specs.Triangulation.{Tri, side, cut, span, v, newRows, tableAfter}
 use Rattle.pieces.proofs.Ways.{span-over}
 use Rattle.pieces.proofs.Sound.{next-link, last-link, all-differ}
 use Rattle.pieces.proofs.Total.{total-append, linkD, chainD, total-piece}
-
--- ---- sums
-
-sum-through : {A B : Type 0} (g : A → ℤ) (h : B → ℤ) (k : A → B) (xs : List A) → ((x : A) → List·Memᴰ x xs → g x ≡ h (k x))
-    → sumOver g xs ≡ sumOver h (map k xs)
-sum-through g h k [] e = refl
-sum-through g h k (x ∷ xs) e =
-    ap (λ z. z +ℤ sumOver g xs) (e x (List·Memᴰ·head refl)) ∙ ap (λ z. h (k x) +ℤ z) (sum-through g h k xs (λ y m. e y (List·Memᴰ·tail m)))
-
-sum-append : {A : Type 0} (f : A → ℤ) (xs ys : List A) → sumOver f (xs ++ ys) ≡ sumOver f xs +ℤ sumOver f ys
-sum-append f [] ys = sym (+ℤ-idl (sumOver f ys))
-sum-append f (x ∷ xs) ys = ap (λ z. f x +ℤ z) (sum-append f xs ys) ∙ sym (+ℤ-assoc (f x) (sumOver f xs) (sumOver f ys))
-
--- what is made of different numbers is made once
-single-map : {B : Type 0} (g : ℕ → B) (i n : ℕ) → ((j k : ℕ) → i ≤ j → j < k → k < i + n → g k ≡ g j → ⊥) → Single (map g (numbersFrom i n))
-unfolding numbersFrom
-single-map g i zero apart = none
-single-map g i (suc n) apart =
-    one-more (λ m.
-    let (k, at, e) = Memᴰ·of-map g (numbersFrom (suc i) n) m in
-    let (low, high) = numbers-e (suc i) n at in
-    apart i k (omega arith) low (omega arith) e)
-    (single-map g (suc i) n (λ j k low less high e. apart j k (omega arith) less (omega arith) e))
 
 -- ---- the sides of the ring
 
@@ -145,7 +122,8 @@ module _ (site : Site) where
     removed-total =
         sum-through (rowD (site .points)) ofLink (link (site .a) (site .b)) (site .removed)
         (λ row k.
-        let both = those-e (holdsEdge (site .a) (site .b)) (sound .chain .table) (subst (λ rows. List·Memᴰ row rows) (sound .chain .going) k) in
+        let both = those-e (holdsEdge (site .a) (site .b)) (sound .chain .table)
+        (subst (λ rows. List·Memᴰ row rows) (sound .chain .going) k) in
         link-D row (λ e. omega (arith, sound .chain .ordered)) (both .1))
         ∙ ap (sumOver ofLink) (sym (sound .chain .linked))
         ∙ sum-same ofLink (site .links) sides sides-length sides-single sides-linked

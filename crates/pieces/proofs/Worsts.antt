@@ -28,7 +28,8 @@ pub row-fraction : (points : List Point) (row : Row) → Fraction (rowQuality po
 unfolding rowQuality
 row-fraction points row = let at = place points in quality-fraction (at (row .p)) (at (row .q)) (at (row .r)) (at (row .s))
 
-rows-fractions : (points : List Point) (rows : List Row) → Fractions (map (rowQuality points) rows)
+-- the qualities of rows are fractions
+pub rows-fractions : (points : List Point) (rows : List Row) → Fractions (map (rowQuality points) rows)
 rows-fractions points rows q m =
     let at = Memᴰ·of-map (rowQuality points) rows m in
     subst Fraction (at .2) (row-fraction points (at .0))

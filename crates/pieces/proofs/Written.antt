@@ -1,45 +1,25 @@
 -- The rows of the chosen triangulation, written as the expansion goes: the piece's own two rows, then those of (i,k), then those of (k,j).
 use Prim.Native.Nat.{ℕ, _+_, _*_, _≤_, _<_}
-use mathlib.Core.List.{List, [], _∷_, _++_, append-assoc, flatMap}
+use mathlib.Core.List.{List, [], _++_, append-assoc, flatMap}
 use mathlib.Core.Option.{Option, none, some, Option·none-ne-some}
 use mathlib.Core.Path.{_≡_, refl, sym, ap, _∙_}
 use native.Mathlib.Omega.{arith}
 use lib.ListN.{length, getD, length-append}
-use Rattle.lists.proofs.Images.{flatMap-append}
 use Rattle.measure.specs.declared.Quality.{Quality}
 use Rattle.mesh.specs.declared.Row.{Row}
-use Rattle.mesh.specs.Mesh.{rowSize, rowBytes}
+use Rattle.mesh.specs.Mesh.{rowSize, withRows}
+use Rattle.mesh.proofs.Pasted.{with-more}
 use Rattle.ring.specs.Ring.{Site}
 use Rattle.pieces.specs.declared.Rim.{Rim}
 use Rattle.pieces.specs.Triangulation.{triangles, twoRows, newRows}
 use Rattle.pieces.specs.Best.{bestWorst, apex, cellAt, chosenOf}
 use Rattle.pieces.specs.Filling.{codedApex, twoOver}
-use Rattle.pieces.specs.Expanding.{pasted, withRows, rowsOver, Between, Follows}
+use Rattle.pieces.specs.Expanding.{rowsOver, Between, Follows}
 use Rattle.pieces.proofs.Split.{Cuts, cut-fits}
 use Rattle.pieces.proofs.Worsts.{rows-cut}
 use Rattle.pieces.proofs.Apex.{no-apex, apex-reaches, mark-apex}
 use Rattle.pieces.proofs.Chosen.{chosen-side, chosen-cut, chosen-way}
 use Rattle.pieces.proofs.Stored.{apex-over}
-use Rattle.pieces.proofs.Pasting.{pasted-none, pasted-more}
-
--- ---- rows next to rows
-
-bytes-length : (rows : List Row) → length (flatMap rowBytes rows) ≡ rowSize * length rows
-unfolding flatMap
-bytes-length [] = refl
-bytes-length (row ∷ rows) = let h = bytes-length rows in omega arith
-
-pub with-none : (table : List ℕ) (at : ℕ) {rows : List Row} → rows ≡ [] → table ≡ withRows table at rows
-unfolding flatMap
-with-none table at e = rw e (pasted-none table (rowSize * at))
-
-pub with-more : (table : List ℕ) (at next : ℕ) (xs ys : List Row) → at + length xs ≡ next → rowSize * (next + length ys) ≤ length table
-    → withRows (withRows table at xs) next ys ≡ withRows table at (xs ++ ys)
-with-more table at next xs ys e h =
-    let lx = bytes-length xs in
-    let ly = bytes-length ys in
-    pasted-more table (rowSize * at) (rowSize * next) (flatMap rowBytes xs) (flatMap rowBytes ys) (omega arith) (omega arith)
-    ∙ ap (pasted table (rowSize * at)) (sym (flatMap-append rowBytes xs ys))
 
 -- ---- the rows of the chosen triangulation
 
@@ -77,7 +57,8 @@ module _ (site : Site) where
 
 -- ---- one step of the expansion
 
-module _ {site : Site} {apexes : List ℕ} {rim : Rim} {region i j : ℕ} (follows : Follows site apexes rim region i j) (long : i + 2 ≤ j) where
+module _ {site : Site} {apexes : List ℕ} {rim : Rim} {region i j : ℕ}
+    (follows : Follows site apexes rim region i j) (long : i + 2 ≤ j) where
   pub mark-rows : {k : ℕ} → k ≡ getD apexes (cellAt i j) 0 → k ≡ 0 → chosenRows site i j ≡ []
   unfolding codedApex
   mark-rows e z = none-chosen site i j (sym (follows .own-apexes i j (omega arith) long (omega arith)) ∙ ap codedApex (sym e ∙ z))
@@ -129,7 +110,8 @@ module _ {site : Site} {apexes : List ℕ} {rim : Rim} {region i j : ℕ} (follo
         let pair = rowsOver (twoOver rim i k j) region in
         let left = chosenRows site i k in
         let right = chosenRows site k j in
-        let all : pair ++ left ++ right ≡ chosenRows site i j = ap (λ rows. rows ++ left ++ right) two-are ∙ sym (chosen-rows site i j k own) in
+        let all : pair ++ left ++ right ≡ chosenRows site i j = ap (λ rows. rows ++ left ++ right) two-are
+        ∙ sym (chosen-rows site i j k own) in
         let count = length-append pair left in
         let first : withRows one (at + 2) left ≡ withRows table at (pair ++ left) =
         ap (λ t. withRows t (at + 2) left) a ∙ with-more table at (at + 2) pair left refl (omega (arith, b .1, c .1)) in (

@@ -1,24 +1,15 @@
 -- Document 01, "Ring and replacement": the new rows in written order, from the apexes that the table keeps.
-use Prim.Native.Nat.{ℕ, _+_, _-_, _*_, _≤_, _<_}
-use mathlib.Core.List.{List, [], _∷_, _++_, flatMap}
+use Prim.Native.Nat.{ℕ, _+_, _-_, _≤_, _<_}
+use mathlib.Core.List.{List, [], _∷_}
 use mathlib.Core.Path.{_≡_}
-use lib.ListN.{length, getD, take, drop}
+use lib.ListN.{getD}
 use Rattle.mesh.specs.declared.Row.{Row}
-use Rattle.mesh.specs.Mesh.{rowSize, rowBytes}
 use Rattle.ring.specs.Ring.{Site}
 use Rattle.pieces.specs.declared.Bipyramid.{Bipyramid}
 use Rattle.pieces.specs.declared.Rim.{Rim}
 use Rattle.pieces.specs.Triangulation.{v, regionOf}
 use Rattle.pieces.specs.Best.{apex, cellAt}
 use Rattle.pieces.specs.Filling.{apexIn}
-
--- the bytes are written from a place on; every other byte stays
-abbrev pub pasted : List ℕ → ℕ → List ℕ → List ℕ
-pasted table at bytes = take at table ++ bytes ++ drop (at + length bytes) table
-
--- rows are written from row number at on; every other byte stays
-abbrev pub withRows : List ℕ → ℕ → List Row → List ℕ
-withRows table at rows = pasted table (rowSize * at) (flatMap rowBytes rows)
 
 -- the rows (a,x,y,z) and (x,y,z,b)
 abbrev pub rowsOver : Bipyramid → ℕ → List Row

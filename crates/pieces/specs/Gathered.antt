@@ -6,9 +6,8 @@ use mathlib.Core.Path.{_≡_}
 use lib.ListN.{getD}
 use Rattle.lists.specs.Lists.{those, has}
 use Rattle.mesh.specs.declared.Row.{Row}
-use Rattle.mesh.specs.Mesh.{Face, faces, reversed}
+use Rattle.mesh.specs.Mesh.{Face, faces, reversed, holdsEdge}
 use Rattle.mesh.specs.Keys.{faceKey}
-use Rattle.ring.specs.Ring.{holdsEdge}
 use Rattle.pieces.specs.declared.Rim.{Rim}
 
 -- how many numbers a byte has

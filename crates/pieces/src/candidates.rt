@@ -6,17 +6,19 @@ ghost use Rattle.mesh.specs.Keys.{mostKeys};
 ghost use Rattle.ring.specs.Ring.{Site, m, maxRing};
 ghost use Rattle.pieces.specs.Best.{cellAt};
 ghost use Rattle.pieces.specs.Candidates.{keep, bestFound};
-ghost use Rattle.pieces.specs.Filling.{Arrays, Given, Reaching, Rimmed, Smaller, bestIn, bestOf, besideOf, candidateOver, cells, choiceOf, readBest, readSide, twoOver, worstOver};
+ghost use Rattle.pieces.specs.Filling.{Arrays, Given, Reaching, Rimmed, Smaller, bestIn, bestOf, besideOf, candidateOver, cells};
+ghost use Rattle.pieces.specs.Filling.{choiceOf, readBest, readSide, twoOver, worstOver};
 use crate::Best;
 use crate::Bipyramid;
+use crate::CELLS;
 use crate::Choice;
-use crate::MAX_RING;
 use crate::Rim;
 use crate::Side;
 use crate::gathered::uses_either;
 use measure::Kind;
 use measure::Quality;
 use mesh::MOST_KEYS;
+use ring::MAX_RING;
 
 // Where the flat arrays keep piece (i,j).
 pub fn cell_at(i: usize, j: usize) -> usize
@@ -28,13 +30,14 @@ pub fn cell_at(i: usize, j: usize) -> usize
 
 // The best worst that a cell keeps, or the mark.
 pub fn best_at<'a>(
-    kinds: &'a [u8; 100],
-    nums: &'a [u64; 100],
-    dens: &'a [u64; 100],
+    kinds: &'a [u8; CELLS],
+    nums: &'a [u64; CELLS],
+    dens: &'a [u64; CELLS],
     at: usize,
 ) -> Best
     requires { ⌜ (length (now kinds) ≡ cells) × (length (now nums) ≡ cells) × (length (now dens) ≡ cells) × (at < cells) ⌝ }
-    ensures { λ r. ⌜ bestOf r ≡ readBest (getD (now (kinds .entry)) at 0) (getD (now (nums .entry)) at 0) (getD (now (dens .entry)) at 0) ⌝ }
+    ensures { λ r. ⌜ bestOf r
+        ≡ readBest (getD (now (kinds .entry)) at 0) (getD (now (nums .entry)) at 0) (getD (now (dens .entry)) at 0) ⌝ }
 {
     let kind = kinds[at];
     match kind {
@@ -47,10 +50,10 @@ pub fn best_at<'a>(
 
 // The side (i,j) of a triangle.
 fn side_at<'a>(
-    kinds: &'a [u8; 100],
-    nums: &'a [u64; 100],
-    dens: &'a [u64; 100],
-    used: &'a [bool; 100],
+    kinds: &'a [u8; CELLS],
+    nums: &'a [u64; CELLS],
+    dens: &'a [u64; CELLS],
+    used: &'a [bool; CELLS],
     i: usize,
     j: usize,
 ) -> Side
@@ -160,10 +163,10 @@ pub fn choose<'a>(
     rim: Rim,
     keys: &[u32; MOST_KEYS],
     n: usize,
-    kinds: &'a [u8; 100],
-    nums: &'a [u64; 100],
-    dens: &'a [u64; 100],
-    used: &'a [bool; 100],
+    kinds: &'a [u8; CELLS],
+    nums: &'a [u64; CELLS],
+    dens: &'a [u64; CELLS],
+    used: &'a [bool; CELLS],
     i: usize,
     j: usize,
 ) -> Choice

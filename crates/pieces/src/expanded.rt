@@ -1,35 +1,19 @@
 // The new rows of a chosen triangulation, in written order.
 ghost use mathlib.Core.Path.{_≡_};
-ghost use mathlib.Core.List.{[], _∷_};
 ghost use Prim.Native.Nat.{_+_, _-_, _*_, _<_, _≤_};
 ghost use lib.ListN.{length, getD};
-ghost use Rattle.mesh.specs.Mesh.{rowSize};
+ghost use Rattle.mesh.specs.Mesh.{rowSize, withRows};
 ghost use Rattle.ring.specs.Ring.{Site, maxRing};
 ghost use Rattle.pieces.specs.Triangulation.{newRows};
 ghost use Rattle.pieces.specs.Best.{cellAt, chosenOf};
 ghost use Rattle.pieces.specs.Filling.{cells};
-ghost use Rattle.pieces.specs.Expanding.{Between, Follows, rowsOver, withRows};
+ghost use Rattle.pieces.specs.Expanding.{Between, Follows, rowsOver};
 use crate::Bipyramid;
+use crate::CELLS;
 use crate::Rim;
 use crate::candidates::cell_at;
 use crate::candidates::two_over;
 use mesh::Row;
-
-// A row is five bytes.
-const ROW_SIZE: usize = 5;
-
-// Row i of a table is written; every other byte stays.
-pub fn write_row(table: &mut [u8], i: usize, row: Row)
-    requires { ⌜ rowSize * i + rowSize ≤ length (now table) ⌝ }
-    ensures { λ _. ⌜ now (table .exit) ≡ withRows (now (table .entry)) i (row ∷ []) ⌝ }
-{
-    let at = ROW_SIZE * i;
-    table[at] = row.p;
-    table[at + 1] = row.q;
-    table[at + 2] = row.r;
-    table[at + 3] = row.s;
-    table[at + 4] = row.region;
-}
 
 // The two rows of a triangle from row `at` on.
 fn write_two(table: &mut [u8], at: usize, rows: Bipyramid, region: u8)
@@ -50,12 +34,12 @@ fn write_two(table: &mut [u8], at: usize, rows: Bipyramid, region: u8)
         s: rows.b,
         region,
     };
-    write_row(table, at, a_row);
-    write_row(table, at + 1, b_row);
+    mesh::put_row(table, at, a_row);
+    mesh::put_row(table, at + 1, b_row);
 }
 
 // The apex kept for piece (i,j), or 0 for the mark.
-fn apex_at(apexes: &[u8; 100], i: usize, j: usize) -> usize
+fn apex_at(apexes: &[u8; CELLS], i: usize, j: usize) -> usize
     requires { ⌜ (length (now apexes) ≡ cells) × Between (now apexes) i j × (1 ≤ i) × (i + 2 ≤ j) × (j ≤ maxRing) ⌝ }
     ensures { λ r. ⌜ (r ≡ getD (now (apexes .entry)) (cellAt i j) 0) × (r < j) × ((r ≡ 0 → ⊥) → i < r) ⌝ }
 {
@@ -67,7 +51,7 @@ fn apex_at(apexes: &[u8; 100], i: usize, j: usize) -> usize
 pub fn expand(
     table: &mut [u8],
     at: usize,
-    apexes: &[u8; 100],
+    apexes: &[u8; CELLS],
     rim: Rim,
     region: u8,
     i: usize,

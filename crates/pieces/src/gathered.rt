@@ -24,7 +24,7 @@ fn place(point: u8) -> usize
 }
 
 // The points a, b and v1 to vm are marked.
-pub fn marks(rim: Rim, m: usize) -> [bool; 256]
+pub fn marks(rim: Rim, m: usize) -> [bool; NUMBERS]
     requires { ⌜ m ≤ maxRing ⌝ }
     ensures { λ r. ⌜ Marks r rim m ⌝ }
 {
@@ -41,7 +41,7 @@ pub fn marks(rim: Rim, m: usize) -> [bool; 256]
 fn add_face(
     keys: &mut [u32; MOST_KEYS],
     n: usize,
-    marks: &[bool; 256],
+    marks: &[bool; NUMBERS],
     x: u8,
     y: u8,
     z: u8,
@@ -67,7 +67,7 @@ fn add_face(
 fn add_row(
     keys: &mut [u32; MOST_KEYS],
     n: usize,
-    marks: &[bool; 256],
+    marks: &[bool; NUMBERS],
     a: u8,
     b: u8,
     row: Row,
@@ -76,7 +76,7 @@ fn add_row(
     ensures { λ r. ⌜ (length (now (keys .exit)) ≡ mostKeys) × (r ≤ n + rowFaces)
         × (take r (now (keys .exit)) ≡ take n (now (keys .entry)) ++ keptKeys (now (marks .entry)) (keptOf a b (row ∷ []))) ⌝ }
 {
-    if ring::holds_edge(row, a, b) {
+    if mesh::holds_edge(row, a, b) {
         return n;
     }
     let one = add_face(keys, n, marks, row.q, row.r, row.s);
@@ -86,7 +86,7 @@ fn add_row(
 }
 
 // The keys of the kept rows' faces that are marked.
-pub fn gather(table: &[u8], n: usize, a: u8, b: u8, marks: &[bool; 256]) -> Kept
+pub fn gather(table: &[u8], n: usize, a: u8, b: u8, marks: &[bool; NUMBERS]) -> Kept
     requires { ⌜ (rowSize * n ≤ length (now table)) × (n ≤ mostRows) × (length (now marks) ≡ numbersOfAByte) ⌝ }
     ensures { λ r. ⌜ (length (r .keys) ≡ mostKeys) × (r .n ≤ mostKeys)
         × (take (r .n) (r .keys) ≡ keptKeys (now (marks .entry)) (keptOf a b (rowsIn (now (table .entry)) n))) ⌝ }

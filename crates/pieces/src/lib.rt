@@ -7,31 +7,30 @@ mod gathered;
 pub use candidates::best_at;
 pub use candidates::cell_at;
 pub use expanded::expand;
-pub use expanded::write_row;
 pub use filled::fill;
 use measure::Quality;
+use mesh::MOST_KEYS;
+use ring::MAX_RING;
 
-// The largest m, and the cells of a table: one for each pair of ring places.
-const MAX_RING: usize = 10;
-
-const CELLS: usize = 100;
+// The cells of a table: one for each pair of ring places.
+pub const CELLS: usize = MAX_RING * MAX_RING;
 
 // The ring with, for every piece (i,j), its best worst and its chosen apex, at one place of four flat arrays.
 // kinds: 0 for the mark of a piece without an admissible triangulation, 1 inverted, 2 flat, 3 upright.
 pub struct Pieces {
     pub m: usize,
-    pub ring: [u8; 10],
-    pub kinds: [u8; 100],
-    pub nums: [u64; 100],
-    pub dens: [u64; 100],
-    pub apexes: [u8; 100],
+    pub ring: [u8; MAX_RING],
+    pub kinds: [u8; CELLS],
+    pub nums: [u64; CELLS],
+    pub dens: [u64; CELLS],
+    pub apexes: [u8; CELLS],
 }
 
 // The points that new rows have: the ends, and v1 to vm from place 0 on.
 pub struct Rim {
     pub a: u8,
     pub b: u8,
-    pub v: [u8; 10],
+    pub v: [u8; MAX_RING],
 }
 
 // The best worst of a piece, or the mark.
@@ -43,7 +42,7 @@ pub enum Best {
 // The keys of the faces of kept rows that can matter: n of them.
 struct Kept {
     n: usize,
-    keys: [u32; 244],
+    keys: [u32; MOST_KEYS],
 }
 
 // The two rows of a triangle x, y, z: (a,x,y,z) and (x,y,z,b).
@@ -78,9 +77,9 @@ struct Cell {
 
 // The table while it is filled, and beside it whether a kept row uses a face of a or b with a piece's closing side.
 struct Filling {
-    kinds: [u8; 100],
-    nums: [u64; 100],
-    dens: [u64; 100],
-    apexes: [u8; 100],
-    used: [bool; 100],
+    kinds: [u8; CELLS],
+    nums: [u64; CELLS],
+    dens: [u64; CELLS],
+    apexes: [u8; CELLS],
+    used: [bool; CELLS],
 }

@@ -33,10 +33,12 @@ starts-at links i h =
 
 pub in-drop : (links : Links) (i : ℕ) → i < links .n
     → drop i (linksIn links) ≡ (getD (links .starts) i 0, getD (links .ends) i 0) ∷ drop (suc i) (linksIn links)
-in-drop links i h = drop-cons (linksIn links) i (0, 0) (omega (arith, in-length links)) ∙ ap (λ l. l ∷ drop (suc i) (linksIn links)) (in-at links i h)
+in-drop links i h = drop-cons (linksIn links) i (0, 0) (omega (arith, in-length links))
+    ∙ ap (λ l. l ∷ drop (suc i) (linksIn links)) (in-at links i h)
 
 pub in-added : (links : Links) (v w : ℕ) → links .n < length (links .starts) → links .n < length (links .ends)
-    → linksIn (record { n = links .n + 1; starts = set (links .starts) (links .n) v; ends = set (links .ends) (links .n) w }) ≡ linksIn links ++ (v, w) ∷ []
+    → linksIn (record { n = links .n + 1; starts = set (links .starts) (links .n) v; ends = set (links .ends) (links .n) w })
+    ≡ linksIn links ++ (v, w) ∷ []
 unfolding linksIn numbersFrom
 in-added links v w s e =
     let n = links .n in
@@ -55,7 +57,8 @@ starts-drop links i h =
     drop-cons (starts (linksIn links)) i 0 (omega (arith, starts-length links)) ∙ ap (λ n. n ∷ drop (suc i) (starts (linksIn links)))
     (starts-at links i h)
 
-pub ends-drop : (links : Links) (i : ℕ) → i < links .n → drop i (ends (linksIn links)) ≡ getD (links .ends) i 0 ∷ drop (suc i) (ends (linksIn links))
+pub ends-drop : (links : Links) (i : ℕ) → i < links .n
+    → drop i (ends (linksIn links)) ≡ getD (links .ends) i 0 ∷ drop (suc i) (ends (linksIn links))
 ends-drop links i h =
     let k : i < length (linksIn links) = omega (arith, in-length links) in
     let e = map-at (λ (l : Link). l .1) (linksIn links) i (0, 0) 0 k ∙ ap (λ (l : Link). l .1) (in-at links i h) in

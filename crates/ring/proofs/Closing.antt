@@ -17,13 +17,15 @@ use Rattle.lists.proofs.Places.{in-cases}
 use Rattle.lists.proofs.Options.{some-is}
 use Rattle.ring.specs.Ring.{Link, next, circle, closes, starts}
 use Rattle.ring.specs.Found.{ends}
-use Rattle.ring.proofs.Walking.{Walks, last, more, next-in, next-is, next-some, walk-walks, walks-walk, walks-short, walks-start, walks-here}
+use Rattle.ring.proofs.Walking.{Walks, last, more, next-in, next-is, next-some, walk-walks, walks-walk, walks-short, walks-start}
+use Rattle.ring.proofs.Walking.{walks-here}
 
 -- a point ends at most one link
 one-before : (links : List Link) {x y z : ℕ} → T (different (ends links)) → List·Memᴰ (x, z) links → List·Memᴰ (y, z) links → x ≡ y
 one-before [] h m k = absurd (List·Memᴰ·not-nil m)
 one-before (l ∷ ls) {x} {y} {z} h m k =
-    let fresh : (u : ℕ) → z ≡ l .1 → List·Memᴰ (u, z) ls → ⊥ = λ u e k. different-head (l .1) (ends ls) h (Memᴰ·map (λ (l : Link). l .1) k) (sym e) in
+    let fresh : (u : ℕ) → z ≡ l .1 → List·Memᴰ (u, z) ls → ⊥ =
+    λ u e k. different-head (l .1) (ends ls) h (Memᴰ·map (λ (l : Link). l .1) k) (sym e) in
     in-cases m
     (λ e. in-cases k (λ f. ap (λ (l : Link). l .0) (e ∙ sym f)) (λ k. absurd (fresh y (ap (λ (l : Link). l .1) e) k)))
     (λ m. in-cases k (λ f. absurd (fresh x (ap (λ (l : Link). l .1) f) m)) (λ k. one-before ls (different-tail (l .1) (ends ls) h) m k))
@@ -33,16 +35,19 @@ one-before (l ∷ ls) {x} {y} {z} h m k =
 pub closes-e : (links : List Link) (v : ℕ) → T (closes links v) → (points : List ℕ) × Walks links v v points
 closes-e links v h = go (circle links v) refl h
   where
-    go : (o : Option (List ℕ)) → circle links v ≡ o → T (elim o [ none ↦ false | some points ↦ true ]) → (points : List ℕ) × Walks links v v points
+    go : (o : Option (List ℕ)) → circle links v ≡ o → T (elim o [ none ↦ false | some points ↦ true ])
+        → (points : List ℕ) × Walks links v v points
     go none e h = absurd h
     go (some points) e h = (points, walk-walks links v (length links) v e)
 
 pub closes-i : (links : List Link) (v : ℕ) {points : List ℕ} → Walks links v v points → T (closes links v)
 closes-i links v w =
-    subst (λ (o : Option (List ℕ)). T (elim o [ none ↦ false | some points ↦ true ])) (sym (walks-walk links v (length links) w (walks-short links v w))) tt
+    subst (λ (o : Option (List ℕ)). T (elim o [ none ↦ false | some points ↦ true ]))
+    (sym (walks-walk links v (length links) w (walks-short links v w))) tt
 
 -- a step on a closed walk leads to a start
-pub step-start : (links : List Link) (start : ℕ) {here there : ℕ} {points : List ℕ} → Walks links start here points → List·Memᴰ start (starts links)
+pub step-start : (links : List Link) (start : ℕ) {here there : ℕ} {points : List ℕ} → Walks links start here points
+    → List·Memᴰ start (starts links)
     → next links here ≡ some there → List·Memᴰ there (starts links)
 step-start links start (last e) m f = rw (some-is (sym f ∙ e)) m
 step-start links start (more e d w) m f = rw (some-is (sym f ∙ e)) (walks-start links start w (walks-here links start w))
@@ -108,4 +113,5 @@ module _ (links : List Link) (single : T (different (starts links))) (single-end
   close-test =
       same-test (every (closes links) (starts links)) (every (has (starts links)) (ends links))
       (λ h. every-i (has (starts links)) (ends links) (λ x m. has-i (starts links) (close-led h x m)))
-      (λ h. every-i (closes links) (starts links) (λ v m. led-close (λ x k. has-e (starts links) x (every-at (has (starts links)) (ends links) h k)) m))
+      (λ h. every-i (closes links) (starts links)
+      (λ v m. led-close (λ x k. has-e (starts links) x (every-at (has (starts links)) (ends links) h k)) m))

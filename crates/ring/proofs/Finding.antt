@@ -1,5 +1,6 @@
 -- What the walk from the smallest start tells: the first of 10 to 13 that is given, or the ring.
--- Idea: a walk that closes by as many points as there are links has met them all; of another it is enough to ask whether each end is a start.
+-- Idea: a walk that closes by as many points as there are links has met them all;
+-- of another it is enough to ask whether each end is a start.
 use Prim.Native.Nat.{ℕ, _≤_, _<_, min, max}
 use mathlib.Core.Bool.{Bool, true, false, not, _||_}
 use mathlib.Core.List.{List, [], List·Memᴰ, Memᴰ·map, Memᴰ·of-map}
@@ -45,7 +46,8 @@ module _ (site : Site) where
   unfolding foundOf ringTests firstRefusal
   found-12 p q r = rw (p, q, r)
 
-  found-13 : edgeMissing site ≡ false → linkOpen site ≡ false → manyCircles site ≡ false → lengthWrong site ≡ true → foundOf site ≡ refusedWith 13
+  found-13 : edgeMissing site ≡ false → linkOpen site ≡ false → manyCircles site ≡ false → lengthWrong site ≡ true
+      → foundOf site ≡ refusedWith 13
   unfolding foundOf ringTests firstRefusal
   found-13 p q r s = rw (p, q, r, s)
 
@@ -108,7 +110,8 @@ module _ (site : Site) (law : Ruled site) where
         subst (λ (o : Option (List ℕ)). T (elim o [ none ↦ false | some points ↦ true ])) q t
         in
         found-11 site held
-        (not-all (closes (site .links)) (starts (site .links)) (λ t. shut (every-at (closes (site .links)) (starts (site .links)) t v1-starts)))
+        (not-all (closes (site .links)) (starts (site .links))
+        (λ t. shut (every-at (closes (site .links)) (starts (site .links)) t v1-starts)))
 
     -- some end of a link is no start
     pub found-led : every (has (starts (site .links))) (ends (site .links)) ≡ false → foundOf site ≡ refusedWith 11
@@ -158,7 +161,8 @@ module _ (site : Site) (law : Ruled site) where
         pub found-wrong : ltb (length points) minRing || ltb maxRing (length points) ≡ true → foundOf site ≡ refusedWith 13
         found-wrong q = found-13 site held shut one (rw ring-is q)
 
-        pub found-ring : ltb (length points) minRing || ltb maxRing (length points) ≡ false → foundOf site ≡ record { answer = Done; ring = ringWith points }
+        pub found-ring : ltb (length points) minRing || ltb maxRing (length points) ≡ false
+            → foundOf site ≡ record { answer = Done; ring = ringWith points }
         found-ring q = found-0 site held shut one (rw ring-is q) ∙ rw ring-is
 
 -- ---- the same of a table, by the arrays that the code keeps
@@ -216,13 +220,15 @@ module _ {table : List ℕ} {n a b : ℕ} (gone : Gone table n a b) where
     size : length (take (gone .walk .m) (gone .walk .v)) ≡ gone .walk .m
     size = length-take-le (gone .walk .m) (gone .walk .v) (gone .room)
 
-    goes : circle ((edgeIn (rowsIn table n) a b) .links) (smallest (starts ((edgeIn (rowsIn table n) a b) .links))) ≡ some (take (gone .walk .m) (gone .walk .v))
+    goes : circle ((edgeIn (rowsIn table n) a b) .links) (smallest (starts ((edgeIn (rowsIn table n) a b) .links)))
+        ≡ some (take (gone .walk .m) (gone .walk .v))
     goes = circle-is ∙ rw closed
 
     pub gives-12 : every (has (starts (linksIn (gone .gathered .links)))) (ends (linksIn (gone .gathered .links))) ≡ true
         → gone .walk .m < gone .gathered .links .n
         → refusedWith 12 ≡ foundOf (edgeIn (rowsIn table n) a b)
-    gives-12 q l = sym (found-many _ law some-here _ goes (rw (links-are (gone .gathered)) at q) (omega (arith, size, link-count (gone .gathered))))
+    gives-12 q l = sym (found-many _ law some-here _ goes (rw (links-are (gone .gathered)) at q)
+        (omega (arith, size, link-count (gone .gathered))))
 
     -- by all the links
     module _ (whole : gone .gathered .links .n ≤ gone .walk .m) where
@@ -236,7 +242,9 @@ module _ {table : List ℕ} {n a b : ℕ} (gone : Gone table n a b) where
       gives-long k l =
           sym (found-wrong _ law some-here _ goes all-links (rw (size, le-ltb (gone .walk .m) minRing k, lt-ltb maxRing (gone .walk .m) l)))
 
-      pub gives-ring : {ring : Ring} → minRing ≤ gone .walk .m → gone .walk .m ≤ maxRing → ring ≡ ringWith (take (gone .walk .m) (gone .walk .v))
+      pub gives-ring : {ring : Ring} → minRing ≤ gone .walk .m → gone .walk .m ≤ maxRing
+          → ring ≡ ringWith (take (gone .walk .m) (gone .walk .v))
           → record { answer = Done; ring = ring } ≡ foundOf (edgeIn (rowsIn table n) a b)
       gives-ring k l q =
-          rw q (sym (found-ring _ law some-here _ goes all-links (rw (size, le-ltb (gone .walk .m) minRing k, le-ltb maxRing (gone .walk .m) l))))
+          rw q (sym (found-ring _ law some-here _ goes all-links
+          (rw (size, le-ltb (gone .walk .m) minRing k, le-ltb maxRing (gone .walk .m) l))))

@@ -15,14 +15,14 @@ use Rattle.lists.proofs.Places.{at-in}
 use Rattle.lists.proofs.Counts.{ind-yes, count-member}
 use Rattle.lists.proofs.Options.{pair-is}
 use Rattle.mesh.specs.declared.Row.{Row}
-use Rattle.mesh.specs.Mesh.{Face, numbers, holds, uses, numbersFit, keepsMeshRule, Proper, noRow}
+use Rattle.mesh.specs.Mesh.{Face, numbers, holds, holdsEdge, uses, numbersFit, keepsMeshRule, Proper, noRow}
 use Rattle.mesh.specs.Tetrahedra.{evenly, rearranged, arrangedFrom}
 use Rattle.mesh.proofs.Faces.{as-is, once, twice, stay, FaceOf, no-p, no-q, no-r, no-s, same-faces, uses-face, face-uses}
 use Rattle.mesh.proofs.Counted.{hits, hits-cons}
 use Rattle.mesh.proofs.Rule.{fit-proper, keeps-fits, keeps-hits}
 use Rattle.mesh.proofs.Evenly.{spin, even-i, even-uses, holds-cases, even-holds, even-proper}
 use Rattle.mesh.proofs.Places.{even-trans, even-sym, arranged-from}
-use Rattle.ring.specs.Ring.{Link, holdsEdge, link, starts}
+use Rattle.ring.specs.Ring.{Link, link, starts}
 use Rattle.ring.specs.Found.{linksOf, ends, following}
 
 -- The two points of a link round a, b, and the ends: below the count, the points different from each other, from a and from b.
@@ -89,14 +89,16 @@ module _ (a b : ℕ) (apart : a ≡ b → ⊥) where
 
   -- ---- all rows: what is shown of a row that holds the edge is shown of each link
 
-  pub links-fit : (count : ℕ) (rows : List Row) {l : Link} → T (keepsMeshRule count rows) → List·Memᴰ l (linksOf a b rows) → LinkFits count a b l
+  pub links-fit : (count : ℕ) (rows : List Row) {l : Link} → T (keepsMeshRule count rows)
+      → List·Memᴰ l (linksOf a b rows) → LinkFits count a b l
   links-fit count rows rule m =
       let (row, k, e) = Memᴰ·of-map (link a b) (those (holdsEdge a b) rows) m in
       let (k, h) = those-e (holdsEdge a b) rows k in
       subst (λ x. LinkFits count a b x) e (link-fits count row (every-at (numbersFit count) rows (keeps-fits count rows rule) k) h)
 
   -- whatever names a face that the row of a link uses stands at most once among the links
-  module _ (part : Link → ℕ) (face : ℕ → Face) (has-face : (row : Row) → T (holdsEdge a b row) → T (uses (face (part (link a b row))) row)) where
+  module _ (part : Link → ℕ) (face : ℕ → Face) (has-face : (row : Row) → T (holdsEdge a b row)
+      → T (uses (face (part (link a b row))) row)) where
     once-each : (rows : List Row) → ((f : Face) → hits f rows ≤ 1) → T (different (map part (linksOf a b rows)))
     unfolding those different
     once-each [] h = tt
@@ -185,7 +187,8 @@ link-following {count} row t b proper even d h =
     holds-cases t b (subst T (sym (even-holds t row even b)) h) (λ i. absurd (d (sym i)))
     (λ i. rw (i, eq-eqb (t .q) (t .q) refl) (link-is row t proper even))
     (λ i. rw (i, ne-eqb (t .r) (t .q) (λ j. k .q-r (sym j)), eq-eqb (t .r) (t .r) refl) (link-is row (spin t) proper spun))
-    (λ i. rw (i, ne-eqb (t .s) (t .q) (λ j. k .q-s (sym j)), ne-eqb (t .s) (t .r) (λ j. k .r-s (sym j))) (link-is row (spin (spin t)) proper twice-spun))
+    (λ i. rw (i, ne-eqb (t .s) (t .q) (λ j. k .q-s (sym j)), ne-eqb (t .s) (t .r) (λ j. k .r-s (sym j)))
+    (link-is row (spin (spin t)) proper twice-spun))
 
 -- and the same of every even rearrangement of the row
 pub link-even : {count : ℕ} (row t : Row) (a b : ℕ) → (a ≡ b → ⊥) → Proper count row → T (rearranged t row)

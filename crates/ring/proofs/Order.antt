@@ -1,11 +1,10 @@
 -- The ring and answers 10 to 13 do not depend on the order of the rows, on their even arrangement, or on the order of the ends.
 -- Idea: two tables of the same tetrahedra have the same links, and where a point starts at most one link their order plays no part.
-use Prim.Native.Nat.{ℕ, zero, suc, _≤_, _<_, min, max}
+use Prim.Native.Nat.{ℕ, zero, suc, min, max}
 use mathlib.Core.Bool.{Bool, true, false, not, _&&_, _||_}
 use mathlib.Core.List.{List, [], _∷_, List·Memᴰ, Memᴰ·map, Memᴰ·of-map}
 use mathlib.Core.Option.{Option, none, some, Option·getD}
 use mathlib.Core.Path.{_≡_, refl, sym, ap, _∙_, subst}
-use native.Mathlib.Decide.{decLt}
 use native.Mathlib.Omega.{arith}
 use lib.Dec.{T, eqb, ltb, eqb→eq}
 use lib.ListN.{length, length-map}
@@ -15,19 +14,19 @@ use Rattle.lists.proofs.Lists.{every-at, every-i, any-e, those-e, those-i}
 use Rattle.lists.proofs.Counts.{count-member, some-counted}
 use Rattle.lists.proofs.Numbers.{no-more}
 use Rattle.mesh.specs.declared.Row.{Row}
-use Rattle.mesh.specs.Mesh.{holds, numbersFit, keepsMeshRule}
+use Rattle.mesh.specs.Mesh.{holds, holdsEdge, numbersFit, keepsMeshRule}
 use Rattle.mesh.specs.Tetrahedra.{rearranged, SameTetrahedra}
 use Rattle.mesh.proofs.Rule.{fit-proper, keeps-fits}
 use Rattle.mesh.proofs.Evenly.{even-holds}
 use Rattle.mesh.proofs.Places.{even-refl}
 use Rattle.mesh.proofs.Alike.{same-keeps}
 use Rattle.block.specs.Layout.{Patch}
-use Rattle.ring.specs.Ring.{Link, holdsEdge, link, next, walk, circle, closes}
+use Rattle.ring.specs.Ring.{Link, link, next, walk, circle, closes}
 use Rattle.ring.specs.Ring.{starts, smallest, ringOf, siteOf, numbersWrong, linkOpen, manyCircles}
 use Rattle.ring.specs.Found.{linksOf, ringTests, foundOf}
 use Rattle.ring.proofs.Linking.{starts-different, link-even}
 use Rattle.ring.proofs.Walking.{back-or-on, stepped, next-in, next-is}
-use Rattle.ring.proofs.Rounding.{smallest-in, smallest-le, smallest-is}
+use Rattle.ring.proofs.Rounding.{smallest-same}
 
 -- ---- the order of the ends
 
@@ -54,7 +53,8 @@ numbers-swap count e f = rw swapped (go (ltb e count) (ltb f count))
     swapped = same-test (eqb f e) (eqb e f) (λ h. eq-test e f (sym (eqb→eq f e h))) (λ h. eq-test f e (sym (eqb→eq e f h)))
 
     go : (x y : Bool)
-        → not ((x && (y && true)) && (not (eqb e f || false) && (not false && true))) ≡ not ((y && (x && true)) && (not (eqb e f || false) && (not false && true)))
+        → not ((x && (y && true)) && (not (eqb e f || false) && (not false && true)))
+        ≡ not ((y && (x && true)) && (not (eqb e f || false) && (not false && true)))
     go true true = refl
     go true false = refl
     go false true = refl
@@ -97,23 +97,10 @@ module _ (ls ks : List Link) (once : T (different (starts ls))) (once' : T (diff
   circle-same : (v : ℕ) → circle ls v ≡ circle ks v
   circle-same v = rw length-same (walk-same (length ks) v v)
 
-  smallest-same : smallest (starts ls) ≡ smallest (starts ks)
-  unfolding smallest
-  smallest-same = go (decLt 0 (length ls))
-    where
-      empty : (links : List Link) → length links ≤ 0 → starts links ≡ []
-      empty [] h = refl
-      empty (l ∷ links) h = absurd (omega arith)
-
-      go : Dec (0 < length ls) → smallest (starts ls) ≡ smallest (starts ks)
-      go (yes h) =
-          let m = smallest-in (starts ls) (omega (arith, length-map ls (λ (l : Link). l .0))) in
-          smallest-is (starts ks) (smallest (starts ls)) (to-start _ m) (λ n k. smallest-le (starts ls) (from-start n k))
-      go (no h) = rw (empty ls (omega arith), empty ks (omega (arith, length-same)))
-
   pub ring-same : ringOf ls ≡ ringOf ks
   unfolding ringOf
-  ring-same = ap (λ o. Option·getD o []) (ap (circle ls) smallest-same ∙ circle-same (smallest (starts ks)))
+  ring-same = ap (λ o. Option·getD o []) (ap (circle ls) (smallest-same (starts ls) (starts ks) to-start from-start)
+      ∙ circle-same (smallest (starts ks)))
 
   -- a test of each start
   each-same : (p q : ℕ → Bool) → ((n : ℕ) → p n ≡ q n) → every p (starts ls) ≡ every q (starts ks)
@@ -187,7 +174,12 @@ module _ (count : ℕ) (patch other : Patch) (e f : ℕ) (apart : e ≡ f → �
       let site = siteOf patch e f in
       let site' = siteOf other e f in
       let l : Row → Link = link (min e f) (max e f) in
-      omega (arith, length-same (site .links) (site' .links) once once' to from, length-map (site .removed) l, length-map (site' .removed) l)
+      omega (
+        arith,
+        length-same (site .links) (site' .links) once once' to from,
+        length-map (site .removed) l,
+        length-map (site' .removed) l,
+      )
 
   same-open : linkOpen (siteOf patch e f) ≡ linkOpen (siteOf other e f)
   unfolding linkOpen

@@ -1,4 +1,5 @@
--- Law 10: links that all close, in one circle, are the links of the ring: its points are different, each is linked to the next and the last to the first.
+-- Law 10: links that all close, in one circle, are the links of the ring:
+-- its points are different, each is linked to the next and the last to the first.
 use Prim.Native.Nat.{ℕ, zero, suc, _+_, _≤_, _<_, min}
 use mathlib.Core.Bool.{true, false}
 use mathlib.Core.List.{List, [], _∷_, foldr, List·Memᴰ, List·Memᴰ·head, List·Memᴰ·tail, List·Memᴰ·not-nil, Memᴰ·map}
@@ -55,6 +56,17 @@ smallest-is ns n m f =
     let high = f (smallest ns) (smallest-in ns (in-length ns m)) in
     omega arith
 
+smallest-none : (ns : List ℕ) → ((n : ℕ) → List·Memᴰ n ns → List·Memᴰ n []) → smallest ns ≡ smallest []
+smallest-none [] nothing = refl
+smallest-none (n ∷ ns) nothing = absurd (List·Memᴰ·not-nil (nothing n (List·Memᴰ·head refl)))
+
+-- it depends on what stands among them alone
+pub smallest-same : (ns ms : List ℕ) → ((n : ℕ) → List·Memᴰ n ns → List·Memᴰ n ms) → ((n : ℕ) → List·Memᴰ n ms → List·Memᴰ n ns)
+    → smallest ns ≡ smallest ms
+smallest-same [] ms to from = sym (smallest-none ms from)
+smallest-same (n ∷ ns) ms to from =
+    smallest-is ms (smallest (n ∷ ns)) (to _ (smallest-in (n ∷ ns) (omega arith))) (λ k i. smallest-le (n ∷ ns) (from k i))
+
 -- ---- the ring of links
 
 -- The ring goes round by all the links, from its smallest point, and meets no point twice.
@@ -92,7 +104,8 @@ module _ (links : List Link) (some-link : 0 < length links) (close : T (every (c
         let v1 = smallest (starts links) in
         let count = length-map links (λ (l : Link). l .0) in
         let few = no-more ring (starts links) (walks-different links v1 ring-walks) (λ n m. walks-start links v1 ring-walks m) in
-        let on : (n : ℕ) → List·Memᴰ n (starts links) → List·Memᴰ n ring = λ n m. has-e ring n (every-at (has ring) (starts links) whole m) in
+        let on : (n : ℕ) → List·Memᴰ n (starts links) → List·Memᴰ n ring =
+        λ n m. has-e ring n (every-at (has ring) (starts links) whole m) in
         let many = no-more (starts links) ring single on in
         record {
           size = omega arith;
@@ -120,9 +133,11 @@ module _ (links : List Link) (single : T (different (starts links))) {ring : Lis
       let new : getD ring (suc i) 0 ≡ smallest (starts links) → ⊥ = λ q.
       let z = different-places ring 0 (suc i) 0 (round .apart) (omega arith) (omega arith) (q ∙ sym (round .least)) in omega arith
       in
-      rw (drop-cons ring i 0 (omega arith)) (more (next-is links single (round .linked i (omega arith)) ∙ ap some on) new (from-place k (suc i) (omega arith)))
+      rw (drop-cons ring i 0 (omega arith))
+      (more (next-is links single (round .linked i (omega arith)) ∙ ap some on) new (from-place k (suc i) (omega arith)))
 
-pub round-one : (links : List Link) {ring other : List ℕ} → T (different (starts links)) → GoesRound links ring → GoesRound links other → ring ≡ other
+pub round-one : (links : List Link) {ring other : List ℕ} → T (different (starts links)) → GoesRound links ring
+    → GoesRound links other → ring ≡ other
 round-one links {ring} {other} single p q = go ring other p q
   where
     go : (r o : List ℕ) → GoesRound links r → GoesRound links o → r ≡ o

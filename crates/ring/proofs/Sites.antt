@@ -59,7 +59,8 @@ pub record PointFits (count a b v : ℕ) : Type 0 where
   pub not-a : a ≡ v → ⊥
   pub not-b : b ≡ v → ⊥
 
-module _ (count : ℕ) (patch : Patch) (e f : ℕ) (apart : e ≡ f → ⊥) (rule : T (keepsMeshRule count (patch .rows))) (one : OneCircle (siteOf patch e f)) where
+module _ (count : ℕ) (patch : Patch) (e f : ℕ) (apart : e ≡ f
+    → ⊥) (rule : T (keepsMeshRule count (patch .rows))) (one : OneCircle (siteOf patch e f)) where
   ends-apart : min e f ≡ max e f → ⊥
   ends-apart i = apart (omega arith)
 

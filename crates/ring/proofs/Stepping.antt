@@ -52,7 +52,8 @@ module _ {links rest : List Link} {s e here : ℕ} (q : links ≡ (s, e) ∷ res
   next-later h = rw (q, ne-eqb s here (λ i. h (sym i)))
 
 -- The first m places of v hold the points so far, and of n steps n - m are left.
-module _ (links : List Link) (start n m : ℕ) (v : List ℕ) (here : ℕ) (so-far : circle links start ≡ onto (take m v) (walk (n - m) links start here)) where
+module _ (links : List Link) (start n m : ℕ) (v : List ℕ) (here : ℕ)
+    (so-far : circle links start ≡ onto (take m v) (walk (n - m) links start here)) where
   module _ (left : m < n) (room : m < length v) where
     one-less : n - m ≡ suc (n - (m + 1))
     one-less = omega arith

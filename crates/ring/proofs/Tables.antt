@@ -8,15 +8,17 @@ use lib.Dec.{T}
 use Rattle.lists.specs.Lists.{those}
 use Rattle.lists.proofs.Lists.{every-at, those-yes, those-no}
 use Rattle.mesh.specs.declared.Row.{Row}
-use Rattle.mesh.specs.Mesh.{rowIn, rowsIn, numbersFit, keepsMeshRule}
+use Rattle.mesh.specs.Mesh.{rowIn, rowsIn, numbersFit, keepsMeshRule, holdsEdge}
 use Rattle.mesh.proofs.Tables.{rows-more, row-among}
 use Rattle.mesh.proofs.Rule.{keeps-fits}
-use Rattle.ring.specs.Ring.{Link, holdsEdge, link}
+use Rattle.ring.specs.Ring.{Link, link}
 use Rattle.ring.specs.Found.{linksOf}
 
 -- a row of a table that keeps the mesh rule
-pub row-fits : (count : ℕ) (table : List ℕ) (n i : ℕ) → T (keepsMeshRule count (rowsIn table n)) → i < n → T (numbersFit count (rowIn table i))
-row-fits count table n i rule h = every-at (numbersFit count) (rowsIn table n) (keeps-fits count (rowsIn table n) rule) (row-among table n i h)
+pub row-fits : (count : ℕ) (table : List ℕ) (n i : ℕ) → T (keepsMeshRule count (rowsIn table n)) → i < n
+    → T (numbersFit count (rowIn table i))
+row-fits count table n i rule h =
+    every-at (numbersFit count) (rowsIn table n) (keeps-fits count (rowsIn table n) rule) (row-among table n i h)
 
 module _ (a b : ℕ) (rows : List Row) (row : Row) where
   -- a row that holds both ends gives one link more
@@ -28,7 +30,8 @@ module _ (a b : ℕ) (rows : List Row) (row : Row) where
   links-same e = ap (map (link a b)) (those-no (holdsEdge a b) rows row e)
 
 -- one row more of a table
-module _ (a b : ℕ) (table : List ℕ) (i : ℕ) {links : List Link} {row : Row} (so-far : links ≡ linksOf a b (rowsIn table i)) (is-row : row ≡ rowIn table i) where
+module _ (a b : ℕ) (table : List ℕ) (i : ℕ) {links : List Link} {row : Row} (so-far : links ≡ linksOf a b (rowsIn table i))
+    (is-row : row ≡ rowIn table i) where
   pub table-more : {l : Link} → holdsEdge a b row ≡ true → l ≡ link a b row → links ++ l ∷ [] ≡ linksOf a b (rowsIn table (i + 1))
   table-more h e = rw (add-one, rows-more table i, ← is-row, links-more a b (rowsIn table i) row h, so-far, e)
 

@@ -8,14 +8,14 @@ use lib.Dec.{T, eqb}
 use lib.ListN.{length, getD, take}
 use Rattle.lists.specs.Lists.{those, numbersFrom}
 use Rattle.mesh.specs.declared.Row.{Row}
-use Rattle.mesh.specs.Mesh.{rowSize, rowsIn, numbersFit, keepsMeshRule}
+use Rattle.mesh.specs.Mesh.{rowSize, rowsIn, numbersFit, keepsMeshRule, holdsEdge}
 use Rattle.block.specs.Layout.{maxRows}
 use Rattle.block.specs.Answers.{Tests, firstRefusal, answerOf}
 use Rattle.block.specs.declared.Answer.the-variants.{Refused}
 use Rattle.ring.specs.declared.Found.{Found}
 use Rattle.ring.specs.declared.Links.{Links}
 use Rattle.ring.specs.declared.Circle.{Circle}
-use Rattle.ring.specs.Ring.{Link, holdsEdge, link, Site, siteOf, edgeMissing, linkOpen, manyCircles, lengthWrong, ringWith}
+use Rattle.ring.specs.Ring.{Link, link, Site, siteOf, edgeMissing, linkOpen, manyCircles, lengthWrong, ringWith}
 
 -- ---- the ring or its refusal
 

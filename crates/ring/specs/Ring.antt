@@ -8,7 +8,7 @@ use lib.ListN.{length}
 use Rattle.lists.specs.Lists.{every, those, has, different}
 use Rattle.measure.specs.declared.Point.{Point}
 use Rattle.mesh.specs.declared.Row.{Row}
-use Rattle.mesh.specs.Mesh.{holds}
+use Rattle.mesh.specs.Mesh.{holdsEdge}
 use Rattle.mesh.specs.Tetrahedra.{arrangedFrom}
 use Rattle.block.specs.Layout.{Patch, filled}
 use Rattle.block.specs.Answers.{Tests}
@@ -19,10 +19,6 @@ use Rattle.ring.specs.declared.Ring.{Ring}
 -- A link v to w.
 abbrev pub Link : Type 0
 Link = ℕ × ℕ
-
--- the row holds both ends
-abbrev pub holdsEdge : ℕ → ℕ → Row → Bool
-holdsEdge a b row = holds row a && holds row b
 
 -- each row holding both is rearranged evenly as (a,b,v,w) and gives a link v to w
 unfoldable pub link : ℕ → ℕ → Row → Link

@@ -7,8 +7,8 @@ use lib.Dec.{T}
 use lib.ListN.{length, getD}
 use Rattle.lists.specs.Lists.{those}
 use Rattle.mesh.specs.declared.Row.{Row}
-use Rattle.mesh.specs.Mesh.{keepsMeshRule}
-use Rattle.ring.specs.Ring.{Site, holdsEdge, link, m}
+use Rattle.mesh.specs.Mesh.{keepsMeshRule, holdsEdge}
+use Rattle.ring.specs.Ring.{Site, link, m}
 
 -- the ring's point that comes after i others: v1 after none
 abbrev pub pointAfter : Site → ℕ → ℕ

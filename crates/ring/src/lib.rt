@@ -1,26 +1,26 @@
 // The ring round an edge.
 ghost use mathlib.Core.Path.{_≡_};
 ghost use mathlib.Core.List.{[], _∷_, _++_};
-ghost use Prim.Native.Nat.{ℕ, _+_, _*_, _<_, _≤_};
-ghost use lib.Dec.{T};
+ghost use Prim.Native.Nat.{_+_, _<_, _≤_};
 ghost use lib.ListN.{length, take};
 ghost use Rattle.lists.specs.Lists.{every, has};
-ghost use Rattle.mesh.specs.Mesh.{rowSize, rowsIn, holds, numbersFit, keepsMeshRule};
+ghost use Rattle.mesh.specs.Mesh.{rowsIn};
 ghost use Rattle.block.specs.Layout.{maxRows};
-ghost use Rattle.ring.specs.Ring.{holdsEdge, link, circle, starts, smallest, maxRing, ringWith};
+ghost use Rattle.ring.specs.Ring.{link, circle, starts, smallest, maxRing, ringWith};
 ghost use Rattle.ring.specs.Found.{refusedWith, foundOf, edgeIn, linksOf, ends, following, linksIn, walked, LinkedRow, Table};
 use block::Answer;
+use block::MAX_ROWS;
 use mesh::Row;
 
 // The smallest and the largest m.
 const MIN_RING: usize = 3;
 
-const MAX_RING: usize = 10;
+pub const MAX_RING: usize = 10;
 
 // The ring: m points, v1 to vm from place 0 on; the places after them are zero.
 pub struct Ring {
     pub m: u8,
-    pub v: [u8; 10],
+    pub v: [u8; MAX_RING],
 }
 
 // What finding gives: the answer and, if it is done, the ring; with a refusal the ring has no points.
@@ -38,44 +38,18 @@ pub struct Link {
 // The n links round an edge, in the order of their rows: link i goes from starts[i] to ends[i].
 struct Links {
     n: usize,
-    starts: [u8; 60],
-    ends: [u8; 60],
+    starts: [u8; MAX_ROWS],
+    ends: [u8; MAX_ROWS],
 }
 
 // A walk: whether it came back to its start, and then the m points that it went by.
 struct Circle {
     closed: bool,
     m: usize,
-    v: [u8; 60],
+    v: [u8; MAX_ROWS],
 }
 
 // ---- the links
-
-// The row holds point n.
-pub fn row_holds(row: Row, n: u8) -> bool
-    ensures { λ r. ⌜ r ≡ holds row n ⌝ }
-{
-    if n == row.p {
-        return true;
-    }
-    if n == row.q {
-        return true;
-    }
-    if n == row.r {
-        return true;
-    }
-    n == row.s
-}
-
-// The row holds both ends.
-pub fn holds_edge(row: Row, a: u8, b: u8) -> bool
-    ensures { λ r. ⌜ r ≡ holdsEdge a b row ⌝ }
-{
-    if row_holds(row, a) {
-        return row_holds(row, b);
-    }
-    false
-}
 
 // What follows b in the face x, y, z, turned round to begin with b.
 fn after(x: u8, y: u8, z: u8, b: u8) -> Link
@@ -127,12 +101,12 @@ fn gather(table: &[u8], n: usize, a: u8, b: u8) -> Links
 {
     let mut links = Links {
         n: 0,
-        starts: [0; 60],
-        ends: [0; 60],
+        starts: [0; MAX_ROWS],
+        ends: [0; MAX_ROWS],
     };
     for i in 0..n {
         let row = mesh::row_in(table, i);
-        if holds_edge(row, a, b) {
+        if mesh::holds_edge(row, a, b) {
             links = added(links, link_of(row, a, b));
         }
     }
@@ -187,7 +161,7 @@ fn walk(links: Links, start: u8) -> Circle
     ensures { λ r. ⌜ (r .m ≤ length (r .v)) × (walked r ≡ circle (linksIn links) start) ⌝ }
 {
     let n = links.n;
-    let mut v = [0; 60];
+    let mut v = [0; MAX_ROWS];
     let mut here = start;
     let mut m: usize = 0;
     'walk: while m < n {
@@ -216,11 +190,11 @@ fn walk(links: Links, start: u8) -> Circle
 }
 
 // The ring of the first m points.
-fn ring_of(v: [u8; 60], m: usize) -> Ring
+fn ring_of(v: [u8; MAX_ROWS], m: usize) -> Ring
     requires { ⌜ m ≤ maxRing ⌝ }
     ensures { λ r. ⌜ r ≡ ringWith (take m v) ⌝ }
 {
-    let mut ring = [0; 10];
+    let mut ring = [0; MAX_RING];
     for i in 0..m {
         ring[i] = v[i];
     }
@@ -236,7 +210,10 @@ fn refused(number: u8) -> Found
 {
     Found {
         answer: Answer::Refused(number),
-        ring: Ring { m: 0, v: [0; 10] },
+        ring: Ring {
+            m: 0,
+            v: [0; MAX_RING],
+        },
     }
 }
 

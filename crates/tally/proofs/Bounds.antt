@@ -30,7 +30,8 @@ unfolding rowQuality
 row-proper points row = let at = place points in quality-proper (at (row .p)) (at (row .q)) (at (row .r)) (at (row .s))
 
 -- a place is within the grid, also where there is no point
-within : (points : List Point) → ((x : ℕ) → List·Memᴰ x (flatMap pointBytes points) → x ≤ maxCoordinate) → (n : ℕ) → Within maxCoordinate (place points n)
+within : (points : List Point) → ((x : ℕ) → List·Memᴰ x (flatMap pointBytes points) → x ≤ maxCoordinate) → (n : ℕ)
+    → Within maxCoordinate (place points n)
 unfolding flatMap
 within [] h n = record { x-most = omega arith; y-most = omega arith; z-most = omega arith }
 within (p ∷ ps) h zero = record {
@@ -44,7 +45,8 @@ module _ (patch : Patch) (grid : T (not (coordinateOver patch))) where
   pub place-within : (n : ℕ) → Within maxCoordinate (place (patch .points) n)
   unfolding coordinateOver
   place-within n =
-      within (patch .points) (λ x m. nltb→le maxCoordinate x (none-passes (ltb maxCoordinate) (flatMap pointBytes (patch .points)) grid m)) n
+      within (patch .points) (λ x m. nltb→le maxCoordinate x (none-passes (ltb maxCoordinate) (flatMap pointBytes (patch .points)) grid m))
+      n
 
   pub row-den-most : (row : Row) → rowQuality (patch .points) row .den ≤ partLimit
   unfolding rowQuality
@@ -55,8 +57,10 @@ module _ (patch : Patch) (grid : T (not (coordinateOver patch))) where
 
   pub qualities-rows : Octaves.Rows partLimit (qualities patch)
   qualities-rows = record {
-    proper = λ q m. let k = Memᴰ·of-map (rowQuality (patch .points)) (patch .rows) m in subst Proper (k .2) (row-proper (patch .points) (k .0));
-    den-small = λ q m. let k = Memᴰ·of-map (rowQuality (patch .points)) (patch .rows) m in subst (λ r. r .den ≤ partLimit) (k .2) (row-den-most (k .0));
+    proper = λ q m. let k = Memᴰ·of-map (rowQuality (patch .points)) (patch .rows) m in
+        subst Proper (k .2) (row-proper (patch .points) (k .0));
+    den-small = λ q m. let k = Memᴰ·of-map (rowQuality (patch .points)) (patch .rows) m in
+        subst (λ r. r .den ≤ partLimit) (k .2) (row-den-most (k .0));
   }
 
   -- the sum of badness of 61 rows fits in 64 bits

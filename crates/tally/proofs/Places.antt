@@ -73,7 +73,8 @@ measured-patch coordinates count table n points rows most grid numbers =
       rows-held = rows;
       rows-most = most;
       on-grid = grid;
-      proper = rw (points-length coordinates count) at (twice-not (every (numbersFit (length (pointsIn coordinates count))) (rowsIn table n)) numbers);
+      proper = rw (points-length coordinates count) at
+          (twice-not (every (numbersFit (length (pointsIn coordinates count))) (rowsIn table n)) numbers);
     }
   where
     twice-not : (b : Bool) → T (not (not b)) → T b

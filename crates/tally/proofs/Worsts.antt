@@ -50,7 +50,8 @@ module _ (f : Row → Quality) (table : List ℕ) (i : ℕ) where
   module _ (p : Row → Bool) where
     -- row i passes, so it counts
     pub passing-met : p (rowIn table i) ≡ true
-        → worstWith (met (worst (map f (those p (rowsIn table i))))) (f (rowIn table i)) ≡ met (worst (map f (those p (rowsIn table (suc i)))))
+        → worstWith (met (worst (map f (those p (rowsIn table i))))) (f (rowIn table i))
+        ≡ met (worst (map f (those p (rowsIn table (suc i)))))
     passing-met e =
         let front = those p (rowsIn table i) in
         sym (worst-more (map f front) (f (rowIn table i)))
@@ -58,6 +59,7 @@ module _ (f : Row → Quality) (table : List ℕ) (i : ℕ) where
         ∙ ap (λ rows. met (worst (map f rows))) (sym (ap (those p) (rows-more table i) ∙ those-yes p (rowsIn table i) (rowIn table i) e))
 
     -- row i does not pass, so nothing changes
-    pub other-met : p (rowIn table i) ≡ false → met (worst (map f (those p (rowsIn table i)))) ≡ met (worst (map f (those p (rowsIn table (suc i)))))
+    pub other-met : p (rowIn table i) ≡ false
+        → met (worst (map f (those p (rowsIn table i)))) ≡ met (worst (map f (those p (rowsIn table (suc i)))))
     other-met e =
         ap (λ rows. met (worst (map f rows))) (sym (ap (those p) (rows-more table i) ∙ those-no p (rowsIn table i) (rowIn table i) e))

@@ -2,7 +2,8 @@
 use mathlib.Core.Path.{sym, _∙_}
 use native.Mathlib.Omega.{arith}
 use borrow.Author.Needs.{needs}
-use Rattle.block.proofs.Answering.{refused-3, refused-4-points, refused-4-rows, refused-5, refused-6, refused-7, refused-8, all-right}
+use Rattle.block.proofs.Answering.{refused-3, refused-4-points, refused-4-rows, refused-5, refused-6, refused-7, refused-8}
+use Rattle.block.proofs.Answering.{all-right}
 use Rattle.block.proofs.body_answer.Statement.{statement}
 use Rattle.block.proofs.body_answer.Tie as tie
 

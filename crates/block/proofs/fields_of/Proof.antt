@@ -16,7 +16,8 @@ whole : (xs ys zs : List ℕ) → length xs ≡ length ys → zs ≡ xs ++ drop 
 whole xs ys zs h e = e ∙ (ap (λ rest. xs ++ rest) (drop-of-length-le ys {i = length xs} (omega arith)) ∙ append-nil xs)
 
 same-fields : {p r : ℕ} {c d t u : List ℕ} → c ≡ d → t ≡ u
-    → _≡_ {A = Fields} (record { points = p; rows = r; coordinates = c; table = t }) (record { points = p; rows = r; coordinates = d; table = u })
+    → _≡_ {A = Fields} (record { points = p; rows = r; coordinates = c; table = t })
+    (record { points = p; rows = r; coordinates = d; table = u })
 same-fields e f = rw (e, f)
 
 sub-copy : tie.Need-sub-copy

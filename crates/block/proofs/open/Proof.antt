@@ -42,7 +42,8 @@ no-fields-requires c κs = search needs
 returns : tie.Need-returns
 returns c =
     let opened = c .before .before .before in
-    given-none (opened .before .before .args .block .now) _ _ _ (opened .opening .ensures) (c .before .enum-told2 .given .1) (c .no-fields .ensures)
+    given-none (opened .before .before .args .block .now) _ _ _ (opened .opening .ensures)
+    (c .before .enum-told2 .given .1) (c .no-fields .ensures)
 
 fields-of-requires : tie.Need-fields-of-requires
 fields-of-requires c κs =
@@ -54,7 +55,8 @@ fields-of-requires c κs =
 returns-2 : tie.Need-returns-2
 returns-2 c =
     let opened = c .before .before .before in
-    given-fields (opened .before .before .args .block .now) _ _ (opened .opening .ensures) (c .before .enum-told .given .1) (c .fields-of .ensures)
+    given-fields (opened .before .before .args .block .now) _ _ (opened .opening .ensures)
+    (c .before .enum-told .given .1) (c .fields-of .ensures)
 
 pub open-spec : {M : Type 1} → statement M
 open-spec =

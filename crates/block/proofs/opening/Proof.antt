@@ -25,7 +25,8 @@ returns-3 c =
     let e2 = c .before in
     let e1 = e2 .before .before in
     c .body-answer .ensures
-    ∙ ap answerOf (sym (open-body (e1 .before .before .args .block .now) (e1 .if1 .left) (sym (e2 .before .sum-wrong .ensures) ∙ e2 .if2 .left)))
+    ∙ ap answerOf (sym (open-body (e1 .before .before .args .block .now) (e1 .if1 .left)
+    (sym (e2 .before .sum-wrong .ensures) ∙ e2 .if2 .left)))
 
 pub opening-spec : {M : Type 1} → statement M
 opening-spec =

@@ -30,7 +30,8 @@ module _ (body out : List ℕ) where
       let f : answer ≡ answerOf (sealAnswer body out) = e ∙ ap answerOf (sym same) in
       (f, sym (seal-keeps body out (answer-refused (sealAnswer body out) n (sym f ∙ d))))
 
-  written-out : (answer : Answer) (copied after : List ℕ) → length body ≡ bodyBytes → length out ≡ blockBytes → answer ≡ answerTo body → answer ≡ Done
+  written-out : (answer : Answer) (copied after : List ℕ) → length body ≡ bodyBytes → length out ≡ blockBytes
+      → answer ≡ answerTo body → answer ≡ Done
       → copied ≡ body ++ drop (length body) out → after ≡ sealed (take bodyBytes copied) → Said answer after
   written-out answer copied after h k e d p q =
       let same = seal-body body out h k in
@@ -85,7 +86,8 @@ returns-4 c =
     let e2 = answered .before in
     let e1 = e2 .before in
     let a = e1 .before .before .before .args in
-    written-out (a .body .now) (a .out .now) _ _ _ (e1 .if1 .left) (e2 .if2 .left) (answered .body-answer .ensures) (told .enum-told .given .1)
+    written-out (a .body .now) (a .out .now) _ _ _ (e1 .if1 .left) (e2 .if2 .left) (answered .body-answer .ensures)
+    (told .enum-told .given .1)
     (copied .copy .ensures) (stamped .stamp .ensures)
 
 pub seal-spec : {M : Type 1} → statement M

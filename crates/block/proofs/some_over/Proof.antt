@@ -14,7 +14,8 @@ use Rattle.block.proofs.some_over.Statement.{statement}
 use Rattle.block.proofs.some_over.Tie as tie
 
 abbrev Inv-loop : tie.InvT-loop
-Inv-loop part i₀ i-end i = (i ≤ length part) × (i-end ≡ length part) × (any (ltb maxCoordinate) (drop i part) ≡ any (ltb maxCoordinate) part)
+Inv-loop part i₀ i-end i = (i ≤ length part) × (i-end ≡ length part)
+    × (any (ltb maxCoordinate) (drop i part) ≡ any (ltb maxCoordinate) part)
 
 abbrev μ-loop : tie.MeasureT-loop
 μ-loop part i₀ i-end i = i-end - i

@@ -48,7 +48,8 @@ less-returns-4 t c =
 less-returns-5 : (t : ℕ) → less-lts.Need-returns-5 (less-below t, less.Post) (less-at t) less.Post
 less-returns-5 t c =
     let a = c .before .before .before .before .args in
-    sym (le-ltb (a .n1 * a .d2) (a .n2 * a .d1) (le-of-lt (below-one (a .n2) (a .d2) (a .n1) (a .d1) (omega arith) (omega arith) (omega arith))))
+    sym (le-ltb (a .n1 * a .d2) (a .n2 * a .d1)
+    (le-of-lt (below-one (a .n2) (a .d2) (a .n1) (a .d1) (omega arith) (omega arith) (omega arith))))
 
 less-div-q1 : (t : ℕ) → less-lts.Need-div-q1 (less-below t, less.Post) (less-at t) less.Post
 less-div-q1 t c = omega arith

@@ -29,7 +29,8 @@ more c =
     let k = c .before .before .before in
     let a = k .before .before .before .args in
     row-checked (a .table .now) (k .before .keys-of .result) (a .n) (k .before .keys-of .ensures)
-    (λ j. omega (arith, k .before .before .shared-slice-known .given j)) (k .loop .row) (omega arith) (c .row-apart .result) (c .row-apart .ensures)
+    (λ j. omega (arith, k .before .before .shared-slice-known .given j)) (k .loop .row) (omega arith)
+    (c .row-apart .result) (c .row-apart .ensures)
 
 keys-of-requires : tie.Need-keys-of-requires Inv-loop μ-loop
 keys-of-requires c κs = search needs
@@ -47,7 +48,8 @@ returns c =
     let a = k .before .before .before .args in
     let i = k .loop .row in
     let no = not-true (c .before .row-apart .result) (c .if1 .taken) in
-    sym (apart-longer (a .table .now) (suc i) (a .n) (omega arith) (more (c .before) ∙ ap (λ b. b && facesApart (rowsIn (a .table .now) i)) no))
+    sym (apart-longer (a .table .now) (suc i) (a .n) (omega arith) (more (c .before)
+    ∙ ap (λ b. b && facesApart (rowsIn (a .table .now) i)) no))
 
 add-row : tie.Need-add-row Inv-loop μ-loop
 add-row c = omega arith
@@ -59,8 +61,11 @@ loop-again : tie.Need-loop-again Inv-loop μ-loop
 loop-again c =
     let k = c .before .before .before .before in
     let a = k .before .before .before .args in
-    let i = k .loop .row in
-    (omega arith, k .loop .inv .1, rw (add-one i, more (c .before), not-false (c .before .row-apart .result) (c .if1 .left)) (k .loop .inv .2))
+    let i = k .loop .row in (
+      omega arith,
+      k .loop .inv .1,
+      rw (add-one i, more (c .before), not-false (c .before .row-apart .result) (c .if1 .left)) (k .loop .inv .2),
+    )
 
 returns-2 : tie.Need-returns-2 Inv-loop μ-loop
 returns-2 c =

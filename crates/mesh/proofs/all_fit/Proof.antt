@@ -33,7 +33,8 @@ returns : tie.Need-returns Inv-loop μ-loop
 returns c =
     let a = c .before .before .before .before .before .before .args in
     let i = c .before .before .before .before .loop .i in
-    let e = ap (numbersFit (a .count)) (sym (c .before .before .row-in .ensures)) ∙ sym (c .before .fits2 .ensures) ∙ not-true _ (c .if1 .taken) in
+    let e = ap (numbersFit (a .count)) (sym (c .before .before .row-in .ensures)) ∙ sym (c .before .fits2 .ensures)
+    ∙ not-true _ (c .if1 .taken) in
     sym (every-no (numbersFit (a .count)) (rowsIn (a .table .now) (a .n)) (row-among (a .table .now) (a .n) i (omega arith)) e)
 
 add-i : tie.Need-add-i Inv-loop μ-loop
@@ -47,7 +48,8 @@ loop-again c =
     let k = c .before .before .before .before in
     let a = k .before .before .args in
     let i = k .loop .i in
-    let e = ap (numbersFit (a .count)) (sym (c .before .before .row-in .ensures)) ∙ sym (c .before .fits2 .ensures) ∙ not-false _ (c .if1 .left) in
+    let e = ap (numbersFit (a .count)) (sym (c .before .before .row-in .ensures)) ∙ sym (c .before .fits2 .ensures)
+    ∙ not-false _ (c .if1 .left) in
     let table = a .table .now in
     (omega arith, rw (add-one i, rows-more table i, every-snoc (numbersFit (a .count)) (rowsIn table i) (rowIn table i), k .loop .inv .1) e)
 

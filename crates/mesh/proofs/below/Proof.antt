@@ -26,7 +26,11 @@ cast-if3 c = search needs
 
 returns-3 : tie.Need-returns-3
 unfolding every
-returns-3 c = rw (lt-ltb _ _ (c .before .before .before .before .if1 .left), lt-ltb _ _ (c .before .before .if2 .left), le-ltb _ _ (c .if3 .taken))
+returns-3 c = rw (
+  lt-ltb _ _ (c .before .before .before .before .if1 .left),
+  lt-ltb _ _ (c .before .before .if2 .left),
+  le-ltb _ _ (c .if3 .taken),
+)
 
 cast-result : tie.Need-cast-result
 cast-result c = search needs

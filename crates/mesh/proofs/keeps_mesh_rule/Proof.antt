@@ -19,7 +19,8 @@ all-apart-requires c κs = search needs
 returns-2 : tie.Need-returns-2
 unfolding keepsMeshRule
 returns-2 c =
-    rw (sym (c .before .before .all-fit .ensures) ∙ not-false (c .before .before .all-fit .result) (c .before .if1 .left)) (c .all-apart .ensures)
+    rw (sym (c .before .before .all-fit .ensures)
+    ∙ not-false (c .before .before .all-fit .result) (c .before .if1 .left)) (c .all-apart .ensures)
 
 pub keeps-mesh-rule-spec : {M : Type 1} → statement M
 keeps-mesh-rule-spec = tie.close (tie.spec all-fit-requires returns all-apart-requires returns-2)

@@ -46,7 +46,8 @@ loop-again c =
       c .store-keys .ensures .0,
       c .store-keys .ensures .1
           ∙ rw (k .loop .inv .2, c .before .row-in .ensures)
-          (sym (flatMap-snoc rowKeys (rowsIn table i) (rowIn table i)) ∙ ap tableKeys (sym (rows-more table i) ∙ ap (rowsIn table) (sym (add-one i)))),
+          (sym (flatMap-snoc rowKeys (rowsIn table i) (rowIn table i))
+          ∙ ap tableKeys (sym (rows-more table i) ∙ ap (rowsIn table) (sym (add-one i)))),
     )
 
 returns : tie.Need-returns Inv-loop μ-loop

@@ -35,7 +35,8 @@ returns-3 : tie.Need-returns-3
 unfolding any faces
 returns-3 c =
     rw (
-      ne-eqb _ _ (λ e. c .before .before .before .before .if1 .left (e ∙ sym (c .before .before .before .before .before .face-key .ensures))),
+      ne-eqb _ _ (λ e. c .before .before .before .before .if1 .left (e
+          ∙ sym (c .before .before .before .before .before .face-key .ensures))),
       ne-eqb _ _ (λ e. c .before .before .if2 .left (e ∙ sym (c .before .before .before .face-key2 .ensures))),
       eq-eqb _ _ (c .if3 .taken ∙ c .before .face-key3 .ensures),
     )
@@ -48,7 +49,8 @@ unfolding any faces
 returns-4 c =
     let a = c .before .before .before .before .before .before .before .args in
     rw (
-      ne-eqb _ _ (λ e. c .before .before .before .before .before .if1 .left (e ∙ sym (c .before .before .before .before .before .before .face-key .ensures))),
+      ne-eqb _ _ (λ e. c .before .before .before .before .before .if1 .left (e
+          ∙ sym (c .before .before .before .before .before .before .face-key .ensures))),
       ne-eqb _ _ (λ e. c .before .before .before .if2 .left (e ∙ sym (c .before .before .before .before .face-key2 .ensures))),
       ne-eqb _ _ (λ e. c .before .if3 .left (e ∙ sym (c .before .before .face-key3 .ensures))),
     ) (ap (eqb (a .key)) (c .face-key4 .ensures) ∙ sym (or-false (eqb (a .key) (faceKey (a .row .p, a .row .r, a .row .q)))))

@@ -60,11 +60,13 @@ loop-again c =
     let rest = args .rows .now in
     ⊎-elim
     (λ w.
-    let more = stays-more x y z table rest i (at .loop .kept) (at .loop .rows) (at .loop .inv .2) _ row _ stayed (w .0 .taken) (c .if1 .rows) (c .if1 .kept)
+    let more = stays-more x y z table rest i (at .loop .kept) (at .loop .rows) (at .loop .inv .2) _ row _ stayed (w .0 .taken)
+    (c .if1 .rows) (c .if1 .kept)
     (w .5 ∙ w .2 .ensures) (w .6) in
     (omega arith, omega (arith, w .6), more))
     (λ w.
-    let more = goes-more x y z table rest i (at .loop .kept) (at .loop .rows) (at .loop .inv .2) _ row _ stayed (w .0 .left) (c .if1 .rows) (c .if1 .kept)
+    let more = goes-more x y z table rest i (at .loop .kept) (at .loop .rows) (at .loop .inv .2) _ row _ stayed (w .0 .left)
+    (c .if1 .rows) (c .if1 .kept)
     (w .1) (w .2) in
     (omega arith, omega (arith, w .2), more))
     (c .if1 .came)

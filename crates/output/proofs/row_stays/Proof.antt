@@ -1,61 +1,17 @@
--- `row_stays` asks for the three numbers, one after the other.
-use Prim.Native.Nat.{ℕ}
-use mathlib.Core.Bool.{Bool, true, false, not}
-use mathlib.Core.Path.{_≡_, sym, ap, _∙_}
+-- `row_stays` turns `holds_face` round.
+use mathlib.Core.Bool.{not}
+use mathlib.Core.Path.{ap}
 use borrow.Author.Needs.{needs}
-use borrow.Author.Tests.{not-true, not-false}
-use Rattle.mesh.specs.declared.Row.{Row}
-use Rattle.mesh.specs.Mesh.{holds}
 use Rattle.output.specs.Output.{stays}
 use Rattle.output.proofs.row_stays.Statement.{statement}
 use Rattle.output.proofs.row_stays.Tie as tie
 
-module _ (x y z : ℕ) (row : Row) where
-  first-missing : (r : Bool) → r ≡ holds row x → r ≡ false → true ≡ stays x y z row
-  unfolding stays
-  first-missing r p e = rw (sym p ∙ e)
-
-  second-missing : (r s : Bool) → r ≡ holds row x → r ≡ true → s ≡ holds row y → s ≡ false → true ≡ stays x y z row
-  unfolding stays
-  second-missing r s p e q f = rw (sym p ∙ e, sym q ∙ f)
-
-  third-decides : (r s t : Bool) → r ≡ holds row x → r ≡ true → s ≡ holds row y → s ≡ true → t ≡ holds row z → not t ≡ stays x y z row
-  unfolding stays
-  third-decides r s t p e q f g = rw (sym p ∙ e, sym q ∙ f) (ap not g)
-
-row-holds-requires : tie.Need-row-holds-requires
-row-holds-requires c κs = search needs
+holds-face-requires : tie.Need-holds-face-requires
+holds-face-requires c κs = search needs
 
 returns : tie.Need-returns
-returns c =
-    let a = c .before .before .args in
-    first-missing (a .x) (a .y) (a .z) (a .row) _ (c .before .row-holds .ensures) (not-true _ (c .if1 .taken))
-
-row-holds-requires-2 : tie.Need-row-holds-requires-2
-row-holds-requires-2 c κs = search needs
-
-returns-2 : tie.Need-returns-2
-returns-2 c =
-    let a = c .before .before .before .before .args in
-    second-missing (a .x) (a .y) (a .z) (a .row) _ _ (c .before .before .before .row-holds .ensures) (not-false _ (c .before .before .if1 .left))
-    (c .before .row-holds2 .ensures) (not-true _ (c .if2 .taken))
-
-row-holds-requires-3 : tie.Need-row-holds-requires-3
-row-holds-requires-3 c κs = search needs
-
-returns-3 : tie.Need-returns-3
-returns-3 c =
-    let a = c .before .before .before .before .before .args in
-    third-decides (a .x) (a .y) (a .z) (a .row) _ _ _ (c .before .before .before .before .row-holds .ensures) (not-false _ (c .before .before .before .if1 .left))
-    (c .before .before .row-holds2 .ensures) (not-false _ (c .before .if2 .left)) (c .row-holds3 .ensures)
+unfolding stays
+returns c = ap not (c .holds-face .ensures)
 
 pub row-stays-spec : {M : Type 1} → statement M
-row-stays-spec =
-    tie.close
-    (tie.spec
-    row-holds-requires
-    returns
-    row-holds-requires-2
-    returns-2
-    row-holds-requires-3
-    returns-3)
+row-stays-spec = tie.close (tie.spec holds-face-requires returns)

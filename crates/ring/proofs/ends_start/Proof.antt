@@ -35,7 +35,8 @@ returns c =
     let at = c .before .before .before .before in
     let links = at .before .args .t1 in
     let d = ends-drop links (at .loop .i) (omega arith) in
-    sym (sym (at .loop .inv .2) ∙ every-here (has (starts (linksIn links))) d (sym (c .before .starts-link .ensures) ∙ not-true (c .before .starts-link .result) (c .if1 .taken)))
+    sym (sym (at .loop .inv .2) ∙ every-here (has (starts (linksIn links))) d (sym (c .before .starts-link .ensures)
+    ∙ not-true (c .before .starts-link .result) (c .if1 .taken)))
 
 add-i : tie.Need-add-i Inv-loop μ-loop
 add-i c = omega arith

@@ -57,7 +57,8 @@ At-walk =
       ring-of-reads.Learnt,
     ) reads.Pre reads.Post
 
-abbrev gone : (w : At-walk) → let args = w .before .before .before .before .before .before .args in Gone (args .table .now) (args .n) (args .a) (args .b)
+abbrev gone : (w : At-walk) → let args = w .before .before .before .before .before .before .args in
+    Gone (args .table .now) (args .n) (args .a) (args .b)
 gone w =
     let got = w .before .before .before .before in
     record {
@@ -101,7 +102,8 @@ returns-4 c =
     let asked = c .before .before .ends-start in
     let closed = not-false (back w) (c .before .before .before .before .before .before .if2 .left) in
     c .refused4 .ensures
-    ∙ gives-12 (gone w) closed (sym (asked .ensures) ∙ not-false (asked .result) (c .before .if4 .left)) (c .before .before .before .if3 .taken)
+    ∙ gives-12 (gone w) closed (sym (asked .ensures) ∙ not-false (asked .result) (c .before .if4 .left))
+    (c .before .before .before .if3 .taken)
 
 refused-requires-5 : tie.Need-refused-requires-5
 refused-requires-5 c κs = search needs

@@ -36,7 +36,8 @@ link-of-requires c κs =
     record {
       count = pre .count;
       fits =
-          rw (c .before .before .row-in .ensures) (row-fits (pre .count) table (at .before .before .args .n) (at .loop .i) (pre .rule) (omega arith));
+          rw (c .before .before .row-in .ensures)
+          (row-fits (pre .count) table (at .before .before .args .n) (at .loop .i) (pre .rule) (omega arith));
       apart = λ e. omega (arith, pre .order);
       held = is-yes _ (sym (c .before .holds-edge .ensures) ∙ c .if1 .taken);
     }

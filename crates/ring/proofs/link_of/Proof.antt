@@ -17,7 +17,8 @@ use borrow.Author.Needs.{needs}
 use Rattle.ring.proofs.link_of.Statement.{statement}
 use Rattle.ring.proofs.link_of.Tie as tie
 
-opposite : {a b : ℕ} {row t : Row} → LinkedRow a b row → List·Memᴰ t (evenly row) → a ≡ t .p → following (t .q) (t .r) (t .s) b ≡ link a b row
+opposite : {a b : ℕ} {row t : Row} → LinkedRow a b row → List·Memᴰ t (evenly row) → a ≡ t .p
+    → following (t .q) (t .r) (t .s) b ≡ link a b row
 opposite {a} {b} {row} {t} h m i =
     let proper = fit-proper (h .count) row (h .fits) in
     rw i (sym (link-following row t b proper (even-i t row m) (λ j. h .apart (i ∙ j)) (and-r (holds row a) (holds row b) (h .held))))
@@ -40,7 +41,8 @@ after-requires-2 c κs = search needs
 returns-2 : tie.Need-returns-2
 unfolding evenly
 returns-2 c =
-    c .after2 .ensures ∙ opposite (c .before .before .before .before .before .pre) (at-in (evenly _) 3 noRow (omega arith)) (c .before .if2 .taken)
+    c .after2 .ensures ∙ opposite (c .before .before .before .before .before .pre)
+    (at-in (evenly _) 3 noRow (omega arith)) (c .before .if2 .taken)
 
 after-requires-3 : tie.Need-after-requires-3
 after-requires-3 c κs = search needs
@@ -48,7 +50,8 @@ after-requires-3 c κs = search needs
 returns-3 : tie.Need-returns-3
 unfolding evenly
 returns-3 c =
-    c .after3 .ensures ∙ opposite (c .before .before .before .before .before .before .before .pre) (at-in (evenly _) 6 noRow (omega arith)) (c .before .if3 .taken)
+    c .after3 .ensures ∙ opposite (c .before .before .before .before .before .before .before .pre)
+    (at-in (evenly _) 6 noRow (omega arith)) (c .before .if3 .taken)
 
 after-requires-4 : tie.Need-after-requires-4
 after-requires-4 c κs = search needs

@@ -45,8 +45,11 @@ loop-less c = omega arith
 loop-again : tie.Need-loop-again Inv-loop μ-loop
 loop-again c =
     let at = c .before in
-    let l : length (at .before .args .t1) ≡ 60 = search needs in
-    (omega arith, ap (λ r. set r (at .loop .i) (getD (at .before .args .t1) (at .loop .i) 0)) (at .loop .inv .1) ∙ copied (at .before .args .t1) (at .loop .i) (omega arith) (omega arith))
+    let l : length (at .before .args .t1) ≡ 60 = search needs in (
+      omega arith,
+      ap (λ r. set r (at .loop .i) (getD (at .before .args .t1) (at .loop .i) 0)) (at .loop .inv .1)
+          ∙ copied (at .before .args .t1) (at .loop .i) (omega arith) (omega arith),
+    )
 
 cast-t12 : tie.Need-cast-t12 Inv-loop μ-loop
 cast-t12 c = omega arith

@@ -16,7 +16,8 @@ use Rattle.ring.proofs.smallest_start.Tie as tie
 
 abbrev Inv-loop : tie.InvT-loop
 Inv-loop links least₀ i₀ i-end least i =
-    (i ≤ i-end) × (i-end ≡ links .n) × ((j : ℕ) × (j < links .n) × (getD (links .starts) j 0 ≡ least)) × ((k : ℕ) → k < i → least ≤ getD (links .starts) k 0)
+    (i ≤ i-end) × (i-end ≡ links .n) × ((j : ℕ) × (j < links .n) × (getD (links .starts) j 0 ≡ least))
+    × ((k : ℕ) → k < i → least ≤ getD (links .starts) k 0)
 
 abbrev μ-loop : tie.MeasureT-loop
 μ-loop links least₀ i₀ i-end least i = i-end - i
@@ -48,8 +49,18 @@ loop-again c =
     let at = c .before .before .before in
     let seen = at .loop .inv .3 in
     ⊎-elim
-    (λ w. (omega arith, refl, (at .loop .i, omega arith, sym (w .2)), below-more _ _ (λ k h. omega (arith, seen k h, w .0 .taken, w .2)) (omega (arith, w .2))))
-    (λ w. (omega arith, refl, rw (w .1) (at .loop .inv .2), below-more _ _ (λ k h. omega (arith, seen k h, w .1)) (omega (arith, w .0 .left, w .1))))
+    (λ w. (
+      omega arith,
+      refl,
+      (at .loop .i, omega arith, sym (w .2)),
+      below-more _ _ (λ k h. omega (arith, seen k h, w .0 .taken, w .2)) (omega (arith, w .2)),
+    ))
+    (λ w. (
+      omega arith,
+      refl,
+      rw (w .1) (at .loop .inv .2),
+      below-more _ _ (λ k h. omega (arith, seen k h, w .1)) (omega (arith, w .0 .left, w .1)),
+    ))
     (c .if1 .came)
 
 returns : tie.Need-returns Inv-loop μ-loop
@@ -58,7 +69,8 @@ returns c =
     let links = at .before .before .args .t1 in
     let (j, h, e) = at .loop .inv .2 in
     smallest-is (starts (linksIn links)) (at .loop .least)
-    (subst (λ n. List·Memᴰ n (starts (linksIn links))) (starts-at links j h ∙ e) (at-in (starts (linksIn links)) j 0 (omega (arith, starts-length links))))
+    (subst (λ n. List·Memᴰ n (starts (linksIn links))) (starts-at links j h
+    ∙ e) (at-in (starts (linksIn links)) j 0 (omega (arith, starts-length links))))
     (λ n m.
     let (k, l, f) = in-at (starts (linksIn links)) 0 m in
     let b : k < links .n = omega (arith, starts-length links) in

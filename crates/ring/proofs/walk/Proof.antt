@@ -30,7 +30,8 @@ abbrev μ-walk : tie.MeasureT-walk
 
 -- the inner loop leaves the walk so far as it was
 inside : (links : List Link) (start n : ℕ) {v v' : List ℕ} {here here' m m' : ℕ} → v ≡ v' → here ≡ here' → m ≡ m'
-    → circle links start ≡ onto (take m' v') (walk (n - m') links start here') → circle links start ≡ onto (take m v) (walk (n - m) links start here)
+    → circle links start ≡ onto (take m' v') (walk (n - m') links start here')
+    → circle links start ≡ onto (take m v) (walk (n - m) links start here)
 inside links start n p q r e = rw (p, q, r) e
 
 walk-holds : tie.Need-walk-holds Inv-loop μ-loop Inv-walk μ-walk
@@ -64,7 +65,8 @@ returns c =
     let d = in-drop links (at .loop .i) (omega arith) in
     let so-far = inside (linksIn links) start (links .n) (inv .0) (inv .1) (inv .2) (out .3) in (
       simp length-set (rw (inv .0) (omega arith)),
-      walk-closes (linksIn links) start (links .n) (at .loop .m) (at .loop .v) (at .loop .here) so-far (omega arith) (rw (inv .0) (omega arith))
+      walk-closes (linksIn links) start (links .n) (at .loop .m) (at .loop .v) (at .loop .here) so-far (omega arith)
+          (rw (inv .0) (omega arith))
           (inv .4 ∙ next-here d (c .before .before .if1 .taken) ∙ ap some (c .if2 .taken)),
     )
 
@@ -83,7 +85,8 @@ walk-again c =
       omega arith,
       refl,
       simp length-set (rw (inv .0) (out .2)),
-      walk-goes (linksIn links) start (links .n) (at .loop .m) (at .loop .v) (at .loop .here) so-far (omega arith) (rw (inv .0) (omega arith))
+      walk-goes (linksIn links) start (links .n) (at .loop .m) (at .loop .v) (at .loop .here) so-far (omega arith)
+          (rw (inv .0) (omega arith))
           (inv .4 ∙ next-here d (c .before .before .if1 .taken)) (c .if2 .left),
     )
 
@@ -105,7 +108,8 @@ returns-2 c =
     let at = c .before in
     let links = at .before .args .t1 in (
       omega arith,
-      walk-spent (linksIn links) (at .before .args .start) (links .n) (at .walk .m) (at .walk .v) (at .walk .here) (at .walk .inv .3) (omega arith),
+      walk-spent (linksIn links) (at .before .args .start) (links .n) (at .walk .m) (at .walk .v) (at .walk .here)
+          (at .walk .inv .3) (omega arith),
     )
 
 returns-3 : tie.Need-returns-3 Inv-loop μ-loop Inv-walk μ-walk

@@ -35,7 +35,8 @@ returns c =
     let l = c .before .before in
     let a = l .before .args in
     let e = l .loop .exponent in
-    le-antisymm (l .loop .inv .1) (octave-below (a .n) (a .total) e (above (a .n) (a .total) e (l .loop .half) (l .loop .inv .0) (c .if1 .taken)))
+    le-antisymm (l .loop .inv .1)
+    (octave-below (a .n) (a .total) e (above (a .n) (a .total) e (l .loop .half) (l .loop .inv .0) (c .if1 .taken)))
 
 add-exponent : tie.Need-add-exponent Inv-loop μ-loop
 add-exponent c = omega arith

@@ -63,9 +63,11 @@ expand-requires c κs =
     let kept = c .before .before .before .before .before .before in
     let start = filled .before .before .before in
     let args = start .args in (
-      expand-ready (args .coordinates .now) (args .count) (args .table .now) (args .n) (args .a) (args .b) (start .pre .0) _ (filled .fill .ensures .0)
+      expand-ready (args .coordinates .now) (args .count) (args .table .now) (args .n) (args .a) (args .b) (start .pre .0) _
+          (filled .fill .ensures .0)
           (start .pre .1) _ (kept .keep-others .ensures .0) _ (kept .keep-others .ensures .1) (all-apexes filled),
-      expand-room (args .coordinates .now) (args .count) (args .table .now) (args .n) (args .a) (args .b) (start .pre .0) _ (filled .fill .ensures .0)
+      expand-room (args .coordinates .now) (args .count) (args .table .now) (args .n) (args .a) (args .b) (start .pre .0) _
+          (filled .fill .ensures .0)
           (start .pre .1) _ (kept .keep-others .ensures .0) _ (kept .keep-others .ensures .1),
     )
 
@@ -78,10 +80,13 @@ returns c =
     let region = c .before .before .before .before .before .before in
     let start = filled .before .before .before in
     let args = start .args in
-    carries (args .coordinates .now) (args .count) (args .table .now) (args .n) (args .a) (args .b) (start .pre .0) _ (filled .fill .ensures .0)
+    carries (args .coordinates .now) (args .count) (args .table .now) (args .n) (args .a) (args .b) (start .pre .0) _
+    (filled .fill .ensures .0)
     _ _ (place .cell-at .ensures) (read .best-at .ensures) _
-    (carried-out (args .coordinates .now) (args .count) (args .table .now) (args .n) (args .a) (args .b) (start .pre .0) _ (filled .fill .ensures .0)
-    (start .pre .1) _ (kept .keep-others .ensures .0) _ (kept .keep-others .ensures .1) _ (region .region-of .ensures) _ _ (c .before .expand .ensures .1))
+    (carried-out (args .coordinates .now) (args .count) (args .table .now) (args .n) (args .a) (args .b) (start .pre .0) _
+    (filled .fill .ensures .0)
+    (start .pre .1) _ (kept .keep-others .ensures .0) _ (kept .keep-others .ensures .1) _ (region .region-of .ensures) _ _
+    (c .before .expand .ensures .1))
 
 pub carry-out-spec : {M : Type 1} → statement M
 carry-out-spec =

@@ -25,7 +25,8 @@ returns : tie.Need-returns Inv-loop μ-loop
 returns c =
     let l = c .before .before .before .before in
     let args = l .before .before .args in
-    region-here (args .table .now) (args .n) (args .a) (args .b) (l .loop .i) (omega arith) (l .loop .inv .1) _ (c .before .before .row-in .ensures)
+    region-here (args .table .now) (args .n) (args .a) (args .b) (l .loop .i) (omega arith) (l .loop .inv .1) _
+    (c .before .before .row-in .ensures)
     (sym (c .before .holds-edge .ensures) ∙ c .if1 .taken)
 
 add-i : tie.Need-add-i Inv-loop μ-loop
@@ -39,7 +40,8 @@ loop-again c =
     let l = c .before .before .before .before in
     let args = l .before .before .args in (
       omega arith,
-      region-later (args .table .now) (args .n) (args .a) (args .b) (l .loop .i) (omega arith) (l .loop .inv .1) _ (c .before .before .row-in .ensures)
+      region-later (args .table .now) (args .n) (args .a) (args .b) (l .loop .i) (omega arith) (l .loop .inv .1) _
+          (c .before .before .row-in .ensures)
           (sym (c .before .holds-edge .ensures) ∙ c .if1 .left),
     )
 

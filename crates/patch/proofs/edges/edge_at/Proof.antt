@@ -49,7 +49,8 @@ fOf k = k .before .before .before .before .before .before .args .f
 size : (k : At-block) → length (blockOf k) ≡ blockBytes
 size k =
     block-size (blockOf k)
-    (edge-opens (blockOf k) (outOf k) (eOf k) (fOf k) _ (k .before .before .before .blocks-answer .ensures) (k .before .enum-told .given .1))
+    (edge-opens (blockOf k) (outOf k) (eOf k) (fOf k) _ (k .before .before .before .blocks-answer .ensures)
+    (k .before .enum-told .given .1))
 
 blocks-answer-requires : tie.Need-blocks-answer-requires
 blocks-answer-requires c κs = search needs
@@ -67,7 +68,8 @@ returns : tie.Need-returns
 returns c =
     let args = c .before .before .before .before .before .before .args in
     c .no-ring .ensures
-    ∙ edge-blocked (args .block .now) (args .out .now) (args .e) (args .f) _ _ (c .before .before .before .blocks-answer .ensures) (c .before .enum-told2 .given .1)
+    ∙ edge-blocked (args .block .now) (args .out .now) (args .e) (args .f) _ _ (c .before .before .before .blocks-answer .ensures)
+    (c .before .enum-told2 .given .1)
 
 shared-slice-read-count : tie.Need-shared-slice-read-count
 shared-slice-read-count c = omega (arith, size c)
@@ -82,7 +84,8 @@ returns-2 : tie.Need-returns-2
 returns-2 c =
     let k = c .before .before in
     c .no-ring2 .ensures
-    ∙ edge-9-first (blockOf k) (outOf k) (eOf k) (fOf k) _ (k .before .before .before .blocks-answer .ensures) (k .before .enum-told .given .1) (c .before .if1 .taken)
+    ∙ edge-9-first (blockOf k) (outOf k) (eOf k) (fOf k) _ (k .before .before .before .blocks-answer .ensures)
+    (k .before .enum-told .given .1) (c .before .if1 .taken)
 
 no-ring-requires-3 : tie.Need-no-ring-requires-3
 no-ring-requires-3 c κs = search needs
@@ -91,7 +94,8 @@ returns-3 : tie.Need-returns-3
 returns-3 c =
     let k = c .before .before .before in
     c .no-ring3 .ensures
-    ∙ edge-9-second (blockOf k) (outOf k) (eOf k) (fOf k) _ (k .before .before .before .blocks-answer .ensures) (k .before .enum-told .given .1)
+    ∙ edge-9-second (blockOf k) (outOf k) (eOf k) (fOf k) _ (k .before .before .before .blocks-answer .ensures)
+    (k .before .enum-told .given .1)
     (c .before .before .if1 .left) (c .before .if2 .taken)
 
 no-ring-requires-4 : tie.Need-no-ring-requires-4
@@ -101,7 +105,8 @@ returns-4 : tie.Need-returns-4
 returns-4 c =
     let k = c .before .before .before .before in
     c .no-ring4 .ensures
-    ∙ edge-9-same (blockOf k) (outOf k) (eOf k) (fOf k) _ (k .before .before .before .blocks-answer .ensures) (k .before .enum-told .given .1)
+    ∙ edge-9-same (blockOf k) (outOf k) (eOf k) (fOf k) _ (k .before .before .before .blocks-answer .ensures)
+    (k .before .enum-told .given .1)
     (c .before .before .before .if1 .left) (c .before .before .if2 .left) (c .before .if3 .taken)
 
 sub-find : tie.Need-sub-find
@@ -122,14 +127,18 @@ cast-find c = omega (arith, c .shared-slice-known4 .given 2)
 smaller-requires : tie.Need-smaller-requires
 smaller-requires c κs =
     let l = c .before .before in
-    let k = l .before .before .before in
-    (omega (arith, l .before .before .if1 .left, k .shared-slice-known3 .given 1), omega (arith, l .before .if2 .left, k .shared-slice-known3 .given 1))
+    let k = l .before .before .before in (
+      omega (arith, l .before .before .if1 .left, k .shared-slice-known3 .given 1),
+      omega (arith, l .before .if2 .left, k .shared-slice-known3 .given 1),
+    )
 
 larger-requires : tie.Need-larger-requires
 larger-requires c κs =
     let l = c .before .before .before in
-    let k = l .before .before .before in
-    (omega (arith, l .before .before .if1 .left, k .shared-slice-known3 .given 1), omega (arith, l .before .if2 .left, k .shared-slice-known3 .given 1))
+    let k = l .before .before .before in (
+      omega (arith, l .before .before .if1 .left, k .shared-slice-known3 .given 1),
+      omega (arith, l .before .if2 .left, k .shared-slice-known3 .given 1),
+    )
 
 find-requires : tie.Need-find-requires
 find-requires c κs =
@@ -144,7 +153,8 @@ returns-5 c =
     let l = g .before .before .before .before in
     let k = l .before .before .before in
     edge-ring (blockOf k) (outOf k) (eOf k) (fOf k) _ (k .before .before .before .blocks-answer .ensures) (k .before .enum-told .given .1)
-    _ _ (g .before .smaller .ensures) (g .larger .ensures) (l .before .before .if1 .left) (l .before .if2 .left) (l .if3 .left) _ (c .find .ensures)
+    _ _ (g .before .smaller .ensures) (g .larger .ensures) (l .before .before .if1 .left) (l .before .if2 .left)
+    (l .if3 .left) _ (c .find .ensures)
 
 pub edge-at-spec : {M : Type 1} → statement M
 edge-at-spec =

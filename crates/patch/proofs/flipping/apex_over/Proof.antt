@@ -45,7 +45,8 @@ outside-requires-2 c κs = search needs
 
 returns-2 : tie.Need-returns-2
 returns-2 c =
-    apex-q _ _ _ (c .before .before .before .outside .ensures) (c .before .before .if1 .left) _ (c .before .outside2 .ensures) (c .if2 .taken)
+    apex-q _ _ _ (c .before .before .before .outside .ensures) (c .before .before .if1 .left) _
+    (c .before .outside2 .ensures) (c .if2 .taken)
 
 outside-requires-3 : tie.Need-outside-requires-3
 outside-requires-3 c κs = search needs
@@ -53,7 +54,8 @@ outside-requires-3 c κs = search needs
 returns-3 : tie.Need-returns-3
 returns-3 c =
     let e2 = c .before .before in
-    apex-r _ _ _ (e2 .before .before .before .outside .ensures) (e2 .before .before .if1 .left) _ (e2 .before .outside2 .ensures) (e2 .if2 .left) _
+    apex-r _ _ _ (e2 .before .before .before .outside .ensures) (e2 .before .before .if1 .left) _
+    (e2 .before .outside2 .ensures) (e2 .if2 .left) _
     (c .before .outside3 .ensures) (c .if3 .taken)
 
 outside-requires-4 : tie.Need-outside-requires-4
@@ -63,14 +65,16 @@ returns-4 : tie.Need-returns-4
 returns-4 c =
     let e3 = c .before .before in
     let e2 = e3 .before .before in
-    apex-s _ _ _ (e2 .before .before .before .outside .ensures) (e2 .before .before .if1 .left) _ (e2 .before .outside2 .ensures) (e2 .if2 .left) _
+    apex-s _ _ _ (e2 .before .before .before .outside .ensures) (e2 .before .before .if1 .left) _
+    (e2 .before .outside2 .ensures) (e2 .if2 .left) _
     (e3 .before .outside3 .ensures) (e3 .if3 .left) _ (c .before .outside4 .ensures) (c .if4 .taken)
 
 returns-5 : tie.Need-returns-5
 returns-5 c =
     let e3 = c .before .before in
     let e2 = e3 .before .before in
-    apex-none _ _ _ (e2 .before .before .before .outside .ensures) (e2 .before .before .if1 .left) _ (e2 .before .outside2 .ensures) (e2 .if2 .left) _
+    apex-none _ _ _ (e2 .before .before .before .outside .ensures) (e2 .before .before .if1 .left) _
+    (e2 .before .outside2 .ensures) (e2 .if2 .left) _
     (e3 .before .outside3 .ensures) (e3 .if3 .left) _ (c .before .outside4 .ensures) (c .if4 .left)
 
 pub apex-over-spec : {M : Type 1} → statement M

@@ -61,13 +61,15 @@ returns-5 : tie.Need-returns-5
 returns-5 c =
     let below = c .before .before in
     let a = below .before .before .before .args in
-    same-xz (a .count) (a .x) (a .y) (a .z) (below .before .before .if1 .left) (below .before .if2 .left) (below .if3 .left) (c .before .if4 .left) (c .if5 .taken)
+    same-xz (a .count) (a .x) (a .y) (a .z) (below .before .before .if1 .left) (below .before .if2 .left) (below .if3 .left)
+    (c .before .if4 .left) (c .if5 .taken)
 
 returns-6 : tie.Need-returns-6
 returns-6 c =
     let below = c .before .before in
     let a = below .before .before .before .args in
-    last-yz (a .count) (a .x) (a .y) (a .z) (below .before .before .if1 .left) (below .before .if2 .left) (below .if3 .left) (c .before .if4 .left) (c .if5 .left)
+    last-yz (a .count) (a .x) (a .y) (a .z) (below .before .before .if1 .left) (below .before .if2 .left) (below .if3 .left)
+    (c .before .if4 .left) (c .if5 .left)
 
 pub face-wrong-spec : {M : Type 1} → statement M
 face-wrong-spec = tie.close (tie.spec returns returns-2 returns-3 returns-4 returns-5 returns-6)

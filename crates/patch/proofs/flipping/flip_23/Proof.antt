@@ -25,7 +25,8 @@ returns c =
     let answered = c .before .before in
     let start = answered .before .before .before .before in
     let a = start .args in
-    is-refused (a .block .now) (a .out .now) (a .x) (a .y) (a .z) (answered .blocks-answer .result) _ (answered .blocks-answer .ensures) (c .enum-told2 .given .1)
+    is-refused (a .block .now) (a .out .now) (a .x) (a .y) (a .z) (answered .blocks-answer .result) _ (answered .blocks-answer .ensures)
+    (c .enum-told2 .given .1)
 
 shared-slice-read-face-wrong : tie.Need-shared-slice-read-face-wrong
 shared-slice-read-face-wrong c =
@@ -33,7 +34,8 @@ shared-slice-read-face-wrong c =
     let answered = told .before .before in
     let start = answered .before .before .before .before in
     let a = start .args in
-    let (opens, output) = opened (a .block .now) (a .out .now) (answered .blocks-answer .result) (answered .blocks-answer .ensures) (told .enum-told .given .1) in
+    let (opens, output) = opened (a .block .now) (a .out .now) (answered .blocks-answer .result) (answered .blocks-answer .ensures)
+    (told .enum-told .given .1) in
     omega (arith, block-size (a .block .now) opens)
 
 cast-face-wrong : tie.Need-cast-face-wrong
@@ -52,8 +54,10 @@ returns-2 c =
     let answered = told .before .before in
     let start = answered .before .before .before .before in
     let a = start .args in
-    let (opens, output) = opened (a .block .now) (a .out .now) (answered .blocks-answer .result) (answered .blocks-answer .ensures) (told .enum-told .given .1) in
-    is-9 (a .block .now) (a .out .now) (a .x) (a .y) (a .z) opens output (tested .face-wrong .result) (tested .face-wrong .ensures) (c .if1 .taken)
+    let (opens, output) = opened (a .block .now) (a .out .now) (answered .blocks-answer .result) (answered .blocks-answer .ensures)
+    (told .enum-told .given .1) in
+    is-9 (a .block .now) (a .out .now) (a .x) (a .y) (a .z) opens output (tested .face-wrong .result)
+    (tested .face-wrong .ensures) (c .if1 .taken)
 
 cast-flip-face : tie.Need-cast-flip-face
 cast-flip-face c =
@@ -62,8 +66,14 @@ cast-flip-face c =
     let answered = told .before .before in
     let start = answered .before .before .before .before in
     let a = start .args in
-    let (opens, output) = opened (a .block .now) (a .out .now) (answered .blocks-answer .result) (answered .blocks-answer .ensures) (told .enum-told .given .1) in
-    omega (arith, few-points (a .block .now) opens, numbers-below (a .block .now) (a .out .now) (a .x) (a .y) (a .z) opens output (tested .face-wrong .result) (tested .face-wrong .ensures) (c .if1 .left) _ (List·Memᴰ·head refl))
+    let (opens, output) = opened (a .block .now) (a .out .now) (answered .blocks-answer .result) (answered .blocks-answer .ensures)
+    (told .enum-told .given .1) in
+    omega (
+      arith,
+      few-points (a .block .now) opens,
+      numbers-below (a .block .now) (a .out .now) (a .x) (a .y) (a .z) opens output
+          (tested .face-wrong .result) (tested .face-wrong .ensures) (c .if1 .left) _ (List·Memᴰ·head refl),
+    )
 
 cast-flip-face-2 : tie.Need-cast-flip-face-2
 cast-flip-face-2 c =
@@ -72,8 +82,14 @@ cast-flip-face-2 c =
     let answered = told .before .before in
     let start = answered .before .before .before .before in
     let a = start .args in
-    let (opens, output) = opened (a .block .now) (a .out .now) (answered .blocks-answer .result) (answered .blocks-answer .ensures) (told .enum-told .given .1) in
-    omega (arith, few-points (a .block .now) opens, numbers-below (a .block .now) (a .out .now) (a .x) (a .y) (a .z) opens output (tested .face-wrong .result) (tested .face-wrong .ensures) (c .if1 .left) _ (List·Memᴰ·tail (List·Memᴰ·head refl)))
+    let (opens, output) = opened (a .block .now) (a .out .now) (answered .blocks-answer .result) (answered .blocks-answer .ensures)
+    (told .enum-told .given .1) in
+    omega (
+      arith,
+      few-points (a .block .now) opens,
+      numbers-below (a .block .now) (a .out .now) (a .x) (a .y) (a .z) opens output
+          (tested .face-wrong .result) (tested .face-wrong .ensures) (c .if1 .left) _ (List·Memᴰ·tail (List·Memᴰ·head refl)),
+    )
 
 cast-flip-face-3 : tie.Need-cast-flip-face-3
 cast-flip-face-3 c =
@@ -82,8 +98,15 @@ cast-flip-face-3 c =
     let answered = told .before .before in
     let start = answered .before .before .before .before in
     let a = start .args in
-    let (opens, output) = opened (a .block .now) (a .out .now) (answered .blocks-answer .result) (answered .blocks-answer .ensures) (told .enum-told .given .1) in
-    omega (arith, few-points (a .block .now) opens, numbers-below (a .block .now) (a .out .now) (a .x) (a .y) (a .z) opens output (tested .face-wrong .result) (tested .face-wrong .ensures) (c .if1 .left) _ (List·Memᴰ·tail (List·Memᴰ·tail (List·Memᴰ·head refl))))
+    let (opens, output) = opened (a .block .now) (a .out .now) (answered .blocks-answer .result) (answered .blocks-answer .ensures)
+    (told .enum-told .given .1) in
+    omega (
+      arith,
+      few-points (a .block .now) opens,
+      numbers-below (a .block .now) (a .out .now) (a .x) (a .y) (a .z) opens output
+          (tested .face-wrong .result) (tested .face-wrong .ensures) (c .if1 .left) _
+          (List·Memᴰ·tail (List·Memᴰ·tail (List·Memᴰ·head refl))),
+    )
 
 flip-face-requires : tie.Need-flip-face-requires
 flip-face-requires c κs =
@@ -93,8 +116,10 @@ flip-face-requires c κs =
     let answered = told .before .before in
     let start = answered .before .before .before .before in
     let a = start .args in
-    let (opens, output) = opened (a .block .now) (a .out .now) (answered .blocks-answer .result) (answered .blocks-answer .ensures) (told .enum-told .given .1) in
-    face-given (a .block .now) (a .out .now) (a .x) (a .y) (a .z) opens output (tested .face-wrong .result) (tested .face-wrong .ensures) (e1 .if1 .left)
+    let (opens, output) = opened (a .block .now) (a .out .now) (answered .blocks-answer .result) (answered .blocks-answer .ensures)
+    (told .enum-told .given .1) in
+    face-given (a .block .now) (a .out .now) (a .x) (a .y) (a .z) opens output (tested .face-wrong .result)
+    (tested .face-wrong .ensures) (e1 .if1 .left)
 
 same-length-3 : tie.Need-same-length-3
 same-length-3 c = search needs

@@ -44,7 +44,8 @@ returns-2 c =
     let shared = e1 .before .before in
     let start = shared .before .before .before .before .before in
     let a = start .args in
-    is-11 (a .block .now) (a .out .now) (a .x) (a .y) (a .z) (start .pre) (shared .share .result) (shared .share .ensures) (e1 .if1 .left) (c .if2 .taken)
+    is-11 (a .block .now) (a .out .now) (a .x) (a .y) (a .z) (start .pre) (shared .share .result) (shared .share .ensures)
+    (e1 .if1 .left) (c .if2 .taken)
 
 returns-3 : tie.Need-returns-3
 returns-3 c =
@@ -53,7 +54,8 @@ returns-3 c =
     let shared = e1 .before .before in
     let start = shared .before .before .before .before .before in
     let a = start .args in
-    is-18 (a .block .now) (a .out .now) (a .x) (a .y) (a .z) (start .pre) (shared .share .result) (shared .share .ensures) (e1 .if1 .left) (e2 .if2 .left) (c .if3 .taken)
+    is-18 (a .block .now) (a .out .now) (a .x) (a .y) (a .z) (start .pre) (shared .share .result) (shared .share .ensures) (e1 .if1 .left)
+    (e2 .if2 .left) (c .if3 .taken)
 
 sub-keep-others : tie.Need-sub-keep-others
 sub-keep-others c = search needs
@@ -103,7 +105,9 @@ returns-4 c =
     let shared = e1 .before .before in
     let start = shared .before .before .before .before .before in
     let a = start .args in
-    is-14 (a .block .now) (a .out .now) (a .x) (a .y) (a .z) (start .pre) (shared .share .result) (shared .share .ensures) (e1 .if1 .left) (e2 .if2 .left) (e3 .if3 .left) (keeps .keep-others .result) _ (keeps .keep-others .ensures .0) (keeps .keep-others .ensures .1) (c .if4 .taken)
+    is-14 (a .block .now) (a .out .now) (a .x) (a .y) (a .z) (start .pre) (shared .share .result) (shared .share .ensures) (e1 .if1 .left)
+    (e2 .if2 .left) (e3 .if3 .left) (keeps .keep-others .result) _ (keeps .keep-others .ensures .0)
+    (keeps .keep-others .ensures .1) (c .if4 .taken)
 
 slice-aggregate-put-three : tie.Need-slice-aggregate-put-three
 slice-aggregate-put-three c = search needs
@@ -122,7 +126,8 @@ put-three-requires c κs =
     let start = shared .before .before .before .before .before in
     let a = start .args in (
       omega arith,
-      found-linked (a .block .now) (a .out .now) (a .x) (a .y) (a .z) (start .pre) (shared .share .result) (shared .share .ensures) (e1 .if1 .left) (e2 .if2 .left) (e3 .if3 .left) (keeps .keep-others .result) _
+      found-linked (a .block .now) (a .out .now) (a .x) (a .y) (a .z) (start .pre) (shared .share .result) (shared .share .ensures)
+          (e1 .if1 .left) (e2 .if2 .left) (e3 .if3 .left) (keeps .keep-others .result) _
           (keeps .keep-others .ensures .0) (keeps .keep-others .ensures .1) (c .least .result) (c .least .ensures),
     )
 
@@ -165,9 +170,11 @@ returns-5 c =
     let shared = e1 .before .before in
     let start = shared .before .before .before .before .before in
     let a = start .args in
-    is-15 (a .block .now) (a .out .now) (a .x) (a .y) (a .z) (start .pre) (shared .share .result) (shared .share .ensures) (e1 .if1 .left) (e2 .if2 .left) (e3 .if3 .left) (keeps .keep-others .result) _
+    is-15 (a .block .now) (a .out .now) (a .x) (a .y) (a .z) (start .pre) (shared .share .result) (shared .share .ensures) (e1 .if1 .left)
+    (e2 .if2 .left) (e3 .if3 .left) (keeps .keep-others .result) _
     (keeps .keep-others .ensures .0) (keeps .keep-others .ensures .1)
-    (e4 .if4 .left) (least .least .result) (least .least .ensures) _ (put .put-three .ensures) _ (tested .keeps-mesh-rule .ensures) (not-true _ (c .if5 .taken))
+    (e4 .if4 .left) (least .least .result) (least .least .ensures) _ (put .put-three .ensures) _ (tested .keeps-mesh-rule .ensures)
+    (not-true _ (c .if5 .taken))
 
 slice-aggregate-write : tie.Need-slice-aggregate-write
 slice-aggregate-write c = search needs
@@ -188,7 +195,8 @@ write-requires c κs =
     let shared = e1 .before .before in
     let start = shared .before .before .before .before .before in
     let a = start .args in
-    after-ready (a .block .now) (a .out .now) (a .x) (a .y) (a .z) (start .pre) (shared .share .result) (shared .share .ensures) (e1 .if1 .left) (e2 .if2 .left) (e3 .if3 .left) (keeps .keep-others .result) _
+    after-ready (a .block .now) (a .out .now) (a .x) (a .y) (a .z) (start .pre) (shared .share .result) (shared .share .ensures)
+    (e1 .if1 .left) (e2 .if2 .left) (e3 .if3 .left) (keeps .keep-others .result) _
     (keeps .keep-others .ensures .0) (keeps .keep-others .ensures .1)
     (e4 .if4 .left) (least .least .result) (least .least .ensures) _ (put .put-three .ensures)
 
@@ -210,9 +218,11 @@ returns-6 c =
     let shared = e1 .before .before in
     let start = shared .before .before .before .before .before in
     let a = start .args in
-    is-0 (a .block .now) (a .out .now) (a .x) (a .y) (a .z) (start .pre) (shared .share .result) (shared .share .ensures) (e1 .if1 .left) (e2 .if2 .left) (e3 .if3 .left) (keeps .keep-others .result) _
+    is-0 (a .block .now) (a .out .now) (a .x) (a .y) (a .z) (start .pre) (shared .share .result) (shared .share .ensures) (e1 .if1 .left)
+    (e2 .if2 .left) (e3 .if3 .left) (keeps .keep-others .result) _
     (keeps .keep-others .ensures .0) (keeps .keep-others .ensures .1)
-    (e4 .if4 .left) (least .least .result) (least .least .ensures) _ (put .put-three .ensures) _ (tested .keeps-mesh-rule .ensures) (not-false _ (e5 .if5 .left)) _ (done .write .ensures)
+    (e4 .if4 .left) (least .least .result) (least .least .ensures) _ (put .put-three .ensures) _ (tested .keeps-mesh-rule .ensures)
+    (not-false _ (e5 .if5 .left)) _ (done .write .ensures)
 
 pub flip-face-spec : {M : Type 1} → statement M
 flip-face-spec =

@@ -1,13 +1,12 @@
 -- `put_three` writes three rows, each behind the one before.
 use Prim.Native.Nat.{ℕ, _+_, _*_, _≤_}
-use mathlib.Core.List.{List, [], _∷_, flatMap}
-use mathlib.Core.Path.{_≡_, ap, _∙_}
+use mathlib.Core.List.{List, [], _∷_}
+use mathlib.Core.Path.{_≡_, refl, ap, _∙_}
 use native.Mathlib.Omega.{arith}
 use lib.ListN.{length}
 use Rattle.mesh.specs.declared.Row.{Row}
-use Rattle.mesh.specs.Mesh.{rowSize, rowBytes}
-use Rattle.output.specs.Output.{pasted}
-use Rattle.output.proofs.Pasted.{pasted-pasted}
+use Rattle.mesh.specs.Mesh.{rowSize, withRows}
+use Rattle.mesh.proofs.Pasted.{with-more}
 use Rattle.ring.specs.Ring.{Link}
 use Rattle.patch.specs.declared.flipping.Sharing.{Sharing}
 use Rattle.patch.specs.Pairing.{threeOf}
@@ -15,25 +14,23 @@ use borrow.Author.Needs.{needs}
 use Rattle.patch.proofs.flipping.put_three.Statement.{statement}
 use Rattle.patch.proofs.flipping.put_three.Tie as tie
 
--- three rows, one behind the other
-three-pasted : (table : List ℕ) (at : ℕ) (r s t : Row) → rowSize * (at + 3) ≤ length table
-    → pasted (pasted (pasted table (rowSize * at) (rowBytes r)) (rowSize * (at + 1)) (rowBytes s)) (rowSize * (at + 2)) (rowBytes t)
-    ≡ pasted table (rowSize * at) (flatMap rowBytes (r ∷ s ∷ t ∷ []))
-unfolding flatMap
-three-pasted table at r s t room =
-    ap (λ l. pasted l (rowSize * (at + 2)) (rowBytes t)) (pasted-pasted table (rowBytes r) (rowBytes s) (rowSize * at) (rowSize * (at + 1)) (omega arith) (omega arith))
-    ∙ pasted-pasted table (flatMap rowBytes (r ∷ s ∷ [])) (rowBytes t) (rowSize * at) (rowSize * (at + 2)) (omega arith) (omega arith)
-
 -- a row of the edge a, b
 abbrev rowOf : Sharing → ℕ → ℕ → Row
 rowOf found r s = record { p = found .a; q = found .b; r = r; s = s; region = found .region }
 
-module _ (table one two three : List ℕ) (at : ℕ) (found : Sharing) (u v w : ℕ) (l : Link) (room : rowSize * (at + 3) ≤ length table) (follow : (v, w) ≡ l) where
-  all-three : one ≡ pasted table (rowSize * at) (rowBytes (rowOf found u v)) → two ≡ pasted one (rowSize * (at + 1)) (rowBytes (rowOf found v w))
-      → three ≡ pasted two (rowSize * (at + 2)) (rowBytes (rowOf found w u)) → three ≡ pasted table (rowSize * at) (flatMap rowBytes (threeOf found u (l .0) (l .1)))
+module _ (table one two three : List ℕ) (at : ℕ) (found : Sharing) (u v w : ℕ) (l : Link) (room : rowSize * (at + 3) ≤ length table)
+    (follow : (v, w) ≡ l) where
+  all-three : one ≡ withRows table at (rowOf found u v ∷ []) → two ≡ withRows one (at + 1) (rowOf found v w ∷ [])
+      → three ≡ withRows two (at + 2) (rowOf found w u ∷ []) → three ≡ withRows table at (threeOf found u (l .0) (l .1))
   all-three e f g =
-      g ∙ (ap (λ l. pasted l (rowSize * (at + 2)) (rowBytes (rowOf found w u))) (f ∙ ap (λ l. pasted l (rowSize * (at + 1)) (rowBytes (rowOf found v w))) e)
-      ∙ (three-pasted table at (rowOf found u v) (rowOf found v w) (rowOf found w u) room ∙ ap (λ (l : Link). pasted table (rowSize * at) (flatMap rowBytes (threeOf found u (l .0) (l .1)))) follow))
+      let r = rowOf found u v in
+      let s = rowOf found v w in
+      let t = rowOf found w u in
+      g
+      ∙ ap (λ l. withRows l (at + 2) (t ∷ [])) (f ∙ ap (λ l. withRows l (at + 1) (s ∷ [])) e
+      ∙ with-more table at (at + 1) (r ∷ []) (s ∷ []) refl (omega arith))
+      ∙ with-more table at (at + 2) (r ∷ s ∷ []) (t ∷ []) refl (omega arith)
+      ∙ ap (λ (l : Link). withRows table at (threeOf found u (l .0) (l .1))) follow
 
 link-of-requires : tie.Need-link-of-requires
 link-of-requires c κs = search needs
@@ -63,7 +60,8 @@ returns c =
     let first = second .before .before .before .before in
     let linked = first .before .before in
     let start = linked .before .before .before in
-    all-three (start .args .rows .now) _ _ _ (start .args .at) (start .args .found) (start .args .u) (linked .link-of .result .v) (linked .link-of .result .w) _ (start .pre .0) (linked .link-of .ensures)
+    all-three (start .args .rows .now) _ _ _ (start .args .at) (start .args .found) (start .args .u) (linked .link-of .result .v)
+    (linked .link-of .result .w) _ (start .pre .0) (linked .link-of .ensures)
     (first .put-row .ensures) (second .put-row2 .ensures) (third .put-row3 .ensures)
 
 pub put-three-spec : {M : Type 1} → statement M

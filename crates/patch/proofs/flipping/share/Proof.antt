@@ -55,8 +55,16 @@ loop-again c =
     let row = c .before .before .row-in .ensures in
     let held = c .before .holds-face .ensures in
     ⊎-elim
-    (λ w. (omega arith, held-next face (args .table .now) (at .loop .i) (at .loop .found) (at .loop .inv .1) _ row _ held (w .0 .taken) _ (c .if1 .found) (w .1 .ensures) (w .3 ∙ w .2 .ensures)))
-    (λ w. (omega arith, other-next face (args .table .now) (at .loop .i) (at .loop .found) (at .loop .inv .1) _ row _ held (w .0 .left) (c .if1 .found) (w .1)))
+    (λ w. (
+      omega arith,
+      held-next face (args .table .now) (at .loop .i) (at .loop .found) (at .loop .inv .1) _ row _ held (w .0 .taken) _
+          (c .if1 .found) (w .1 .ensures) (w .3 ∙ w .2 .ensures),
+    ))
+    (λ w. (
+      omega arith,
+      other-next face (args .table .now) (at .loop .i) (at .loop .found) (at .loop .inv .1) _ row _ held
+          (w .0 .left) (c .if1 .found) (w .1),
+    ))
     (c .if1 .came)
 
 returns : tie.Need-returns Inv-loop μ-loop

@@ -21,7 +21,8 @@ returns-2 c = let k = c .before .before in rw (ne-eqb _ _ (k .before .before .if
 
 returns-3 : tie.Need-returns-3
 unfolding withRow
-returns-3 c = let k = c .before .before .before in rw (ne-eqb _ _ (k .before .before .if1 .left), le-ltb _ _ (c .before .if2 .left), k .greater .ensures)
+returns-3 c = let k = c .before .before .before in
+    rw (ne-eqb _ _ (k .before .before .if1 .left), le-ltb _ _ (c .before .if2 .left), k .greater .ensures)
 
 pub with-row-spec : {M : Type 1} → statement M
 with-row-spec = tie.close (tie.spec returns add-n greater-requires returns-2 returns-3)

@@ -19,14 +19,17 @@ same-length c = search needs
 returns : tie.Need-returns
 returns c =
     let planned = c .before .before .before in
-    let args = planned .before .before .before .before .args in
-    (flip-answer (args .block .now) (args .out .now) (args .e) (args .f) _ (planned .flip-plan .ensures), flip-keeps (args .block .now) (args .out .now) (args .e) (args .f) _ (planned .flip-plan .ensures) _ (c .enum-told2 .given .1))
+    let args = planned .before .before .before .before .args in (
+      flip-answer (args .block .now) (args .out .now) (args .e) (args .f) _ (planned .flip-plan .ensures),
+      flip-keeps (args .block .now) (args .out .now) (args .e) (args .f) _ (planned .flip-plan .ensures) _ (c .enum-told2 .given .1),
+    )
 
 write-requires : tie.Need-write-requires
 write-requires c κs =
     let planned = c .before .before .before .before .before .before .before in
     let args = planned .before .before .before .before .args in
-    flip-ready (args .block .now) (args .out .now) (args .e) (args .f) _ (planned .flip-plan .ensures) (c .before .before .before .before .enum-told .given .1)
+    flip-ready (args .block .now) (args .out .now) (args .e) (args .f) _ (planned .flip-plan .ensures)
+    (c .before .before .before .before .enum-told .given .1)
 
 same-length-2 : tie.Need-same-length-2
 same-length-2 c = search needs
@@ -36,7 +39,8 @@ returns-2 c =
     let planned = c .before .before .before .before .before .before .before .before .before .before in
     let args = planned .before .before .before .before .args in (
       flip-answer (args .block .now) (args .out .now) (args .e) (args .f) _ (planned .flip-plan .ensures),
-      flip-writes (args .block .now) (args .out .now) (args .e) (args .f) _ (planned .flip-plan .ensures) (c .before .before .before .before .before .before .before .enum-told .given .1) _ (c .before .before .write .ensures),
+      flip-writes (args .block .now) (args .out .now) (args .e) (args .f) _ (planned .flip-plan .ensures)
+          (c .before .before .before .before .before .before .before .enum-told .given .1) _ (c .before .before .write .ensures),
     )
 
 pub flip-32-spec : {M : Type 1} → statement M

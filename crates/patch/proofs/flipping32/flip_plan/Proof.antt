@@ -87,7 +87,8 @@ returns c =
     let edge = c .before .before .before .before in
     let args = edge .before .before .before .args in
     c .no-plan .ensures
-    ∙ edge-refuses-flip (args .block .now) (args .out .now) (args .e) (args .f) _ (edge .edge-at .ensures) _ (c .before .enum-told2 .given .1)
+    ∙ edge-refuses-flip (args .block .now) (args .out .now) (args .e) (args .f) _ (edge .edge-at .ensures) _
+    (c .before .enum-told2 .given .1)
 
 no-plan-requires-2 : tie.Need-no-plan-requires-2
 no-plan-requires-2 c κs = search needs
@@ -97,7 +98,8 @@ returns-2 c =
     let edge = c .before .before .before .before .before .before in
     let args = edge .before .before .before .args in
     c .no-plan2 .ensures
-    ∙ not-three (args .block .now) (args .out .now) (args .e) (args .f) _ (edge .edge-at .ensures) (c .before .before .before .enum-told .given .1) (c .before .if1 .taken)
+    ∙ not-three (args .block .now) (args .out .now) (args .e) (args .f) _ (edge .edge-at .ensures)
+    (c .before .before .before .enum-told .given .1) (c .before .if1 .taken)
 
 shared-slice-read-count : tie.Need-shared-slice-read-count
 shared-slice-read-count c = omega (arith, size c)
@@ -138,8 +140,11 @@ larger-requires c κs = ends (c .before .before .before .before)
 carry-out-requires : tie.Need-carry-out-requires
 carry-out-requires c κs =
     let k = c .before .before .before .before .before in
-    let own = given k _ _ (c .before .smaller .ensures) (c .larger .ensures) in
-    (own, room-32 (coordinatesOf (blockOf k)) (pointCount (blockOf k)) (tableOf (blockOf k)) (rowCount (blockOf k)) _ _ own (k .before .if1 .left))
+    let own = given k _ _ (c .before .smaller .ensures) (c .larger .ensures) in (
+      own,
+      room-32 (coordinatesOf (blockOf k)) (pointCount (blockOf k)) (tableOf (blockOf k)) (rowCount (blockOf k))
+          _ _ own (k .before .if1 .left),
+    )
 
 enum-told-3 : tie.Need-enum-told-3
 enum-told-3 c = search needs
@@ -156,14 +161,16 @@ returns-3 c =
     let k = carried .before .before .before .before .before .before in
     c .no-plan3 .ensures
     ∙ no-way (blockOf k) (outOf k) (eOf k) (fOf k) (foundAt k) (is-found k) (is-done k) (k .before .if1 .left) _ _
-    (carried .before .before .smaller .ensures) (carried .before .larger .ensures) _ (carried .carry-out .ensures) (c .before .enum-told4 .given .1)
+    (carried .before .before .smaller .ensures) (carried .before .larger .ensures) _ (carried .carry-out .ensures)
+    (c .before .enum-told4 .given .1)
 
 returns-4 : tie.Need-returns-4
 returns-4 c =
     let carried = c .before .before .before in
     let k = carried .before .before .before .before .before .before in
     flip-done (blockOf k) (outOf k) (eOf k) (fOf k) (foundAt k) (is-found k) (is-done k) (k .before .if1 .left) _ _
-    (carried .before .before .smaller .ensures) (carried .before .larger .ensures) _ (carried .carry-out .ensures) _ (c .enum-told3 .given .1)
+    (carried .before .before .smaller .ensures) (carried .before .larger .ensures) _ (carried .carry-out .ensures) _
+    (c .enum-told3 .given .1)
 
 pub flip-plan-spec : {M : Type 1} → statement M
 flip-plan-spec =

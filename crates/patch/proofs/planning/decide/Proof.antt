@@ -41,8 +41,11 @@ returns c =
 carry-out-requires : tie.Need-carry-out-requires
 carry-out-requires c κs =
     let start = c .before .before .before .before in
-    let args = start .args in
-    (start .pre, has-room (args .coordinates .now) (args .count) (args .table .now) (args .n) (args .a) (args .b) (start .pre) (c .if1 .left))
+    let args = start .args in (
+      start .pre,
+      has-room (args .coordinates .now) (args .count) (args .table .now) (args .n) (args .a) (args .b)
+          (start .pre) (c .if1 .left),
+    )
 
 enum-known-best : tie.Need-enum-known-best
 enum-known-best c = search needs
@@ -59,7 +62,8 @@ returns-2 c =
     let start = carried .before .before .before .before .before in
     let args = start .args in
     c .no-plan2 .ensures
-    ∙ gives-15 (args .coordinates .now) (args .count) (args .table .now) (args .n) (args .a) (args .b) (start .pre) (carried .before .if1 .left)
+    ∙ gives-15 (args .coordinates .now) (args .count) (args .table .now) (args .n) (args .a) (args .b) (start .pre)
+    (carried .before .if1 .left)
     _ (carried .carry-out .ensures) (c .before .enum-told .given .1)
 
 worst-round-requires : tie.Need-worst-round-requires
@@ -79,7 +83,8 @@ returns-3 c =
     let start = carried .before .before .before .before .before in
     let args = start .args in
     c .no-plan3 .ensures
-    ∙ gives-16 (args .coordinates .now) (args .count) (args .table .now) (args .n) (args .a) (args .b) (start .pre) (carried .before .if1 .left)
+    ∙ gives-16 (args .coordinates .now) (args .count) (args .table .now) (args .n) (args .a) (args .b) (start .pre)
+    (carried .before .if1 .left)
     _ (carried .carry-out .ensures) _ (told .best .given .1) _ (compared .before .worst-round .ensures)
     (sym (compared .worse .ensures) ∙ not-true _ (c .before .if2 .taken))
 
@@ -93,7 +98,8 @@ total-volume-requires-2 c κs =
     let carried = told .before .before .before in
     let start = carried .before .before .before .before .before in
     let args = start .args in
-    measured-way (args .coordinates .now) (args .count) (args .table .now) (args .n) (args .a) (args .b) (start .pre) (carried .before .if1 .left)
+    measured-way (args .coordinates .now) (args .count) (args .table .now) (args .n) (args .a) (args .b) (start .pre)
+    (carried .before .if1 .left)
     _ (carried .carry-out .ensures) _ (told .best .given .1) _ (compared .before .worst-round .ensures)
 
 differ-requires : tie.Need-differ-requires
@@ -113,7 +119,8 @@ returns-4 c =
     let start = carried .before .before .before .before .before in
     let args = start .args in
     c .no-plan4 .ensures
-    ∙ gives-17 (args .coordinates .now) (args .count) (args .table .now) (args .n) (args .a) (args .b) (start .pre) (carried .before .if1 .left)
+    ∙ gives-17 (args .coordinates .now) (args .count) (args .table .now) (args .n) (args .a) (args .b) (start .pre)
+    (carried .before .if1 .left)
     _ (carried .carry-out .ensures) _ (told .best .given .1) _ (compared .before .worst-round .ensures)
     (sym (compared .worse .ensures) ∙ not-false _ (left .if2 .left))
     _ _ (read (sum .ok) (sum .ensures)) (read (sum2 .ok) (sum2 .ensures))
@@ -129,7 +136,8 @@ returns-5 c =
     let carried = told .before .before .before in
     let start = carried .before .before .before .before .before in
     let args = start .args in
-    gives-0 (args .coordinates .now) (args .count) (args .table .now) (args .n) (args .a) (args .b) (start .pre) (carried .before .if1 .left)
+    gives-0 (args .coordinates .now) (args .count) (args .table .now) (args .n) (args .a) (args .b) (start .pre)
+    (carried .before .if1 .left)
     _ (carried .carry-out .ensures) _ (told .best .given .1) _ (compared .before .worst-round .ensures)
     (sym (compared .worse .ensures) ∙ not-false _ (left .if2 .left))
     _ _ (read (sum .ok) (sum .ensures)) (read (sum2 .ok) (sum2 .ensures))

@@ -16,7 +16,8 @@ shown-requires : tie.Need-shown-requires
 shown-requires c κs =
     let start = c .before .before .before .before .before .before .before in
     let args = start .args in
-    worst-carries (args .coordinates .now) (args .count) (args .table .now) (args .n) (start .pre .0) _ (c .before .before .before .before .worst-row .ensures)
+    worst-carries (args .coordinates .now) (args .count) (args .table .now) (args .n) (start .pre .0) _
+    (c .before .before .before .before .worst-row .ensures)
 
 shown-requires-2 : tie.Need-shown-requires-2
 shown-requires-2 c κs =

@@ -87,7 +87,8 @@ returns c =
     let edge = c .before .before .before .before .before in
     let args = edge .before .before .before .args in
     c .refused .ensures
-    ∙ edge-refuses (args .block .now) (args .out .now) (args .e) (args .f) _ (edge .edge-at .ensures) _ (c .before .before .answer .given .1)
+    ∙ edge-refuses (args .block .now) (args .out .now) (args .e) (args .f) _ (edge .edge-at .ensures) _
+    (c .before .before .answer .given .1)
 
 enum-told : tie.Need-enum-told
 enum-told c = search needs
@@ -142,8 +143,10 @@ returns-2 c =
     let decided = c .before .before .before .before .before in
     let k = decided .before .before .before .before .before .before in
     c .refused2 .ensures
-    ∙ plan-refuses (blockOf k) (outOf k) (eOf k) (fOf k) (foundAt k) (is-found k) (is-done k) _ _ (decided .before .before .smaller .ensures) (decided .before .larger .ensures) _
-    (plan-refused (coordinatesOf (blockOf k)) (pointCount (blockOf k)) (tableOf (blockOf k)) (rowCount (blockOf k)) _ _ (given k _ _ (decided .before .before .smaller .ensures) (decided .before .larger .ensures)) _
+    ∙ plan-refuses (blockOf k) (outOf k) (eOf k) (fOf k) (foundAt k) (is-found k) (is-done k) _ _
+    (decided .before .before .smaller .ensures) (decided .before .larger .ensures) _
+    (plan-refused (coordinatesOf (blockOf k)) (pointCount (blockOf k)) (tableOf (blockOf k)) (rowCount (blockOf k)) _ _
+    (given k _ _ (decided .before .before .smaller .ensures) (decided .before .larger .ensures)) _
     (decided .decide .ensures) _ (c .before .before .answer2 .given .1))
 
 enum-told-2 : tie.Need-enum-told-2
@@ -153,14 +156,18 @@ page-row-requires : tie.Need-page-row-requires
 page-row-requires c κs =
     let decided = c .before .before .before in
     let k = decided .before .before .before .before .before .before in
-    let own = given k _ _ (decided .before .before .smaller .ensures) (decided .before .larger .ensures) in
-    (own .measured, plan-measured (coordinatesOf (blockOf k)) (pointCount (blockOf k)) (tableOf (blockOf k)) (rowCount (blockOf k)) _ _ own _ (decided .decide .ensures) (c .enum-told2 .given .1))
+    let own = given k _ _ (decided .before .before .smaller .ensures) (decided .before .larger .ensures) in (
+      own .measured,
+      plan-measured (coordinatesOf (blockOf k)) (pointCount (blockOf k)) (tableOf (blockOf k)) (rowCount (blockOf k))
+          _ _ own _ (decided .decide .ensures) (c .enum-told2 .given .1),
+    )
 
 returns-3 : tie.Need-returns-3
 returns-3 c =
     let decided = c .before .before .before .before in
     let k = decided .before .before .before .before .before .before in
-    done-outcome (blockOf k) (outOf k) (eOf k) (fOf k) (foundAt k) (is-found k) (is-done k) _ _ (decided .before .before .smaller .ensures) (decided .before .larger .ensures)
+    done-outcome (blockOf k) (outOf k) (eOf k) (fOf k) (foundAt k) (is-found k) (is-done k) _ _ (decided .before .before .smaller .ensures)
+    (decided .before .larger .ensures)
     _ (decided .decide .ensures) (c .before .enum-told2 .given .1) _ (c .page-row .ensures)
 
 pub prepare-spec : {M : Type 1} → statement M

@@ -19,14 +19,17 @@ same-length c = search needs
 returns : tie.Need-returns
 returns c =
     let prepared = c .before .before .before .before in
-    let args = prepared .before .before .before .before .args in
-    (gives-own (args .block .now) (args .out .now) (args .e) (args .f) _ (prepared .prepare .ensures), keeps-out (args .block .now) (args .out .now) (args .e) (args .f) _ (prepared .prepare .ensures) _ (c .enum-told2 .given .1))
+    let args = prepared .before .before .before .before .args in (
+      gives-own (args .block .now) (args .out .now) (args .e) (args .f) _ (prepared .prepare .ensures),
+      keeps-out (args .block .now) (args .out .now) (args .e) (args .f) _ (prepared .prepare .ensures) _ (c .enum-told2 .given .1),
+    )
 
 write-requires : tie.Need-write-requires
 write-requires c κs =
     let prepared = c .before .before .before .before .before .before .before .before in
     let args = prepared .before .before .before .before .args in
-    remove-ready (args .block .now) (args .out .now) (args .e) (args .f) _ (prepared .prepare .ensures) _ (c .before .before .before .before .enum-told .given .1)
+    remove-ready (args .block .now) (args .out .now) (args .e) (args .f) _ (prepared .prepare .ensures) _
+    (c .before .before .before .before .enum-told .given .1)
 
 same-length-2 : tie.Need-same-length-2
 same-length-2 c = search needs
@@ -36,7 +39,8 @@ returns-2 c =
     let prepared = c .before .before .before .before .before .before .before .before .before .before .before in
     let args = prepared .before .before .before .before .args in (
       gives-own (args .block .now) (args .out .now) (args .e) (args .f) _ (prepared .prepare .ensures),
-      remove-writes (args .block .now) (args .out .now) (args .e) (args .f) _ (prepared .prepare .ensures) _ (c .before .before .before .before .before .before .before .enum-told .given .1) _ (c .before .before .write .ensures),
+      remove-writes (args .block .now) (args .out .now) (args .e) (args .f) _ (prepared .prepare .ensures) _
+          (c .before .before .before .before .before .before .before .enum-told .given .1) _ (c .before .before .write .ensures),
     )
 
 pub remove-spec : {M : Type 1} → statement M

@@ -61,7 +61,11 @@ part-summary-of-end-2 : tie.Need-part-summary-of-end-2
 part-summary-of-end-2 c =
     let k = c .before .before .before .before .before in
     let block = k .before .before .args .block .now in
-    omega (arith, block-size block (handed-done (openAnswer block) _ (k .opening .ensures) (c .before .before .before .enum-told .given .1)))
+    omega (
+      arith,
+      block-size block
+          (handed-done (openAnswer block) _ (k .opening .ensures) (c .before .before .before .enum-told .given .1)),
+    )
 
 summary-of-requires : tie.Need-summary-of-requires
 summary-of-requires c κs =
@@ -73,7 +77,8 @@ returns-2 : tie.Need-returns-2
 returns-2 c =
     let k = c .before .before .before .before .before .before .before in
     let block = k .before .before .args .block .now in
-    summed-done block _ (handed-done (openAnswer block) _ (k .opening .ensures) (c .before .before .before .before .before .enum-told .given .1)) (c .summary-of .ensures)
+    summed-done block _ (handed-done (openAnswer block) _ (k .opening .ensures)
+    (c .before .before .before .before .before .enum-told .given .1)) (c .summary-of .ensures)
 
 pub summary-spec : {M : Type 1} → statement M
 summary-spec =

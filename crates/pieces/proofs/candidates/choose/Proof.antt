@@ -94,8 +94,10 @@ loop-again c =
           step-is (λ k. candidate site (bestIn kinds nums dens) (a .i) k (a .j)) (a .i) k (omega arith)
           (l .loop .inv .2 site given end smaller)
           (c .before .candidate .ensures
-          ∙ ap (λ rows. candidateOver (now (a .coordinates)) (take (a .n) (now (a .keys))) rows (left .side-at .result) (right .side-at2 .result)) (two .two-over .ensures)
-          ∙ ap₂ (candidateOver (now (a .coordinates)) (take (a .n) (now (a .keys))) (twoOver (a .rim) (a .i) k (a .j))) (left .side-at .ensures) (right .side-at2 .ensures)
+          ∙ ap (λ rows. candidateOver (now (a .coordinates)) (take (a .n) (now (a .keys))) rows (left .side-at .result)
+          (right .side-at2 .result)) (two .two-over .ensures)
+          ∙ ap₂ (candidateOver (now (a .coordinates)) (take (a .n) (now (a .keys))) (twoOver (a .rim) (a .i) k (a .j)))
+          (left .side-at .ensures) (right .side-at2 .ensures)
           ∙ candidate-is given (omega arith) (omega arith) (omega arith) end kinds nums dens used smaller)
           (c .taken .ensures),
     )

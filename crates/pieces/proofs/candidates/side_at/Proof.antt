@@ -44,7 +44,8 @@ returns-3 c =
     let a = s .before .before .args in
     let used = rw (s .cell-at .ensures) at (b .before .if2 .left) in
     let best = rw (s .cell-at .ensures) at (b .best-at .ensures) in
-    sym (side-read (now (a .kinds)) (now (a .nums)) (now (a .dens)) (now (a .used)) (a .i) (a .j) (s .before .if1 .left) used none (rw (c .enum-told .given .1) at best))
+    sym (side-read (now (a .kinds)) (now (a .nums)) (now (a .dens)) (now (a .used)) (a .i) (a .j) (s .before .if1 .left) used none
+    (rw (c .enum-told .given .1) at best))
 
 returns-4 : tie.Need-returns-4
 returns-4 c =
@@ -53,7 +54,8 @@ returns-4 c =
     let a = s .before .before .args in
     let used = rw (s .cell-at .ensures) at (b .before .if2 .left) in
     let best = rw (s .cell-at .ensures) at (b .best-at .ensures) in
-    sym (side-read (now (a .kinds)) (now (a .nums)) (now (a .dens)) (now (a .used)) (a .i) (a .j) (s .before .if1 .left) used (some _) (rw (c .before .best .given .1) at best))
+    sym (side-read (now (a .kinds)) (now (a .nums)) (now (a .dens)) (now (a .used)) (a .i) (a .j) (s .before .if1 .left) used (some _)
+    (rw (c .before .best .given .1) at best))
 
 pub side-at-spec : {M : Type 1} → statement M
 side-at-spec =

@@ -7,8 +7,10 @@ use lib.ListN.{length}
 use denote.Ref.{now}
 use borrow.Fn.Kinds.{In}
 use borrow.Fn.PlainCycle.{Measures, is, falls, and}
-use Rattle.pieces.specs.Expanding.{rowsOver, withRows}
-use Rattle.pieces.proofs.Written.{all-written, left-between, left-follows, mark-rows, near-rows, right-between, right-follows, with-none}
+use Rattle.mesh.specs.Mesh.{withRows}
+use Rattle.mesh.proofs.Pasted.{with-none}
+use Rattle.pieces.specs.Expanding.{rowsOver}
+use Rattle.pieces.proofs.Written.{all-written, left-between, left-follows, mark-rows, near-rows, right-between, right-follows}
 use Rattle.pieces.proofs.expanded.expand.Reads as expand
 use Rattle.pieces.proofs.expanded.expand.Kinds as expand-kinds
 use Rattle.pieces.proofs.expanded.+expand.Lts-expand as expand-lts
@@ -155,7 +157,10 @@ expand-expand-requires t c κs =
     let low = k .ensures .2 (e .if2 .left) in
     let high = k .ensures .1 in (
       omega (arith, s .pre .0, low, high),
-      ((pre .0, left-between (omega (arith, high)) (pre .1), pre .2, low, omega (arith, high, pre .4)), omega (arith, s .pre .1 .1, two .write-two .kept .0, low, high)),
+      (
+        (pre .0, left-between (omega (arith, high)) (pre .1), pre .2, low, omega (arith, high, pre .4)),
+        omega (arith, s .pre .1 .1, two .write-two .kept .0, low, high),
+      ),
     )
 
 expand-expand-requires-2 : (t : ℕ) → expand-lts.Need-expand-requires-2 (
@@ -179,7 +184,10 @@ expand-expand-requires-2 t c κs =
     let low = k .ensures .2 (e .if2 .left) in
     let high = k .ensures .1 in (
       omega (arith, s .pre .0, low, high),
-      ((pre .0, right-between (omega (arith, low)) (pre .1), omega (arith, low), high, pre .4), omega (arith, s .pre .1 .1, one .expand .kept .0, two .write-two .kept .0, one .expand .ensures .0, low, high)),
+      (
+        (pre .0, right-between (omega (arith, low)) (pre .1), omega (arith, low), high, pre .4),
+        omega (arith, s .pre .1 .1, one .expand .kept .0, two .write-two .kept .0, one .expand .ensures .0, low, high),
+      ),
     )
 
 expand-same-length : (t : ℕ) → expand-lts.Need-same-length (

@@ -6,19 +6,19 @@ use native.Mathlib.Omega.{arith}
 use denote.Ref.{now}
 use borrow.Author.Needs.{needs}
 use Rattle.mesh.specs.declared.Row.{Row}
-use Rattle.pieces.specs.Expanding.{withRows}
-use Rattle.pieces.proofs.Written.{with-more}
+use Rattle.mesh.specs.Mesh.{withRows}
+use Rattle.mesh.proofs.Pasted.{with-more}
 use Rattle.pieces.proofs.expanded.write_two.Statement.{statement}
 use Rattle.pieces.proofs.expanded.write_two.Tie as tie
 
-write-row-requires : tie.Need-write-row-requires
-write-row-requires c κs = search needs
+put-row-requires : tie.Need-put-row-requires
+put-row-requires c κs = search needs
 
-add-write-row : tie.Need-add-write-row
-add-write-row c = search needs
+add-put-row : tie.Need-add-put-row
+add-put-row c = search needs
 
-write-row-requires-2 : tie.Need-write-row-requires-2
-write-row-requires-2 c κs = search needs
+put-row-requires-2 : tie.Need-put-row-requires-2
+put-row-requires-2 c κs = search needs
 
 same-length : tie.Need-same-length
 same-length c = search needs
@@ -31,10 +31,10 @@ returns c =
     let a = s .args in
     let a-row : Row = record { p = a .rows .a; q = a .rows .x; r = a .rows .y; s = a .rows .z; region = a .region } in
     let b-row : Row = record { p = a .rows .x; q = a .rows .y; r = a .rows .z; s = a .rows .b; region = a .region } in
-    two .write-row2 .ensures
-    ∙ ap (λ t. withRows t (a .at + 1) (b-row ∷ [])) (one .write-row .ensures)
+    two .put-row2 .ensures
+    ∙ ap (λ t. withRows t (a .at + 1) (b-row ∷ [])) (one .put-row .ensures)
     ∙ with-more (now (a .table)) (a .at) (a .at + 1) (a-row ∷ []) (b-row ∷ []) refl (omega (arith, s .pre))
 
 pub write-two-spec : {M : Type 1} → statement M
 write-two-spec =
-    tie.close (tie.spec write-row-requires add-write-row write-row-requires-2 same-length returns)
+    tie.close (tie.spec put-row-requires add-put-row put-row-requires-2 same-length returns)

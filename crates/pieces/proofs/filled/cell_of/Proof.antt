@@ -27,7 +27,13 @@ returns c = rw (c .enum-told .given .1)
 returns-2 : tie.Need-returns-2
 returns-2 c =
     let k = c .before .before .before in
-    rw (k .before .before .choice .given .1, c .before .before .kind-code .ensures, k .kind .ensures, c .before .num .ensures, c .den .ensures)
+    rw (
+      k .before .before .choice .given .1,
+      c .before .before .kind-code .ensures,
+      k .kind .ensures,
+      c .before .num .ensures,
+      c .den .ensures,
+    )
 
 pub cell-of-spec : {M : Type 1} → statement M
 cell-of-spec =

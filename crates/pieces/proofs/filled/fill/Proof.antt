@@ -41,8 +41,12 @@ loop-holds c =
     let s = c .before .before .before .before .before .before .before in
     let ready = s .pre in
     let e = size-is ready in
-    let long = ready .long in
-    (omega (arith, e, long), omega (arith, e, long), done-none (s .args .ring .m - 1) (omega (arith, e, long)), blank-start (s .args .ring .m))
+    let long = ready .long in (
+      omega (arith, e, long),
+      omega (arith, e, long),
+      done-none (s .args .ring .m - 1) (omega (arith, e, long)),
+      blank-start (s .args .ring .m),
+    )
 
 sub-i-2 : tie.Need-sub-i-2 Inv-loop μ-loop
 sub-i-2 c = omega arith
@@ -53,7 +57,11 @@ fill-row-requires c κs =
     let g = l .before in
     let ready = g .before .before .before .before .before .before .before .pre in (
       (rimmed ready, g .gather .ensures .0, g .gather .ensures .1),
-      (omega (arith, l .loop .inv .0, c .before .before .loop-test .taken), omega (arith, l .loop .inv .1, size-is ready, ready .short), omega (arith, size-is ready, ready .short)),
+      (
+        omega (arith, l .loop .inv .0, c .before .before .loop-test .taken),
+        omega (arith, l .loop .inv .1, size-is ready, ready .short),
+        omega (arith, size-is ready, ready .short),
+      ),
     )
 
 loop-less : tie.Need-loop-less Inv-loop μ-loop
@@ -71,8 +79,10 @@ loop-again c =
     let back : i - 1 + 1 ≡ i = omega (arith, turn .loop-test .taken) in (
       omega (arith, turn .loop-test .taken),
       omega (arith, l .loop .inv .1),
-      c .fill-row .ensures .0 (siteIn (now (s .args .coordinates)) (s .args .count) (now (s .args .table)) (s .args .n) (s .args .a) (s .args .b))
-          (given ready (marks .marks .ensures) (λ j. omega (arith, marks .before .before .before .shared-slice-known2 .given j)) (g .gather .ensures .2))
+      c .fill-row .ensures .0
+          (siteIn (now (s .args .coordinates)) (s .args .count) (now (s .args .table)) (s .args .n) (s .args .a) (s .args .b))
+          (given ready (marks .marks .ensures)
+          (λ j. omega (arith, marks .before .before .before .shared-slice-known2 .given j)) (g .gather .ensures .2))
           (size-is ready)
           (rw back (l .loop .inv .2)),
       c .fill-row .ensures .1 (l .loop .inv .3),

@@ -122,7 +122,8 @@ loop-again c =
           (at .cell-at .ensures)
           (cell .cell-of .ensures),
       λ blank.
-          blank-put (l .loop .next) (cell .cell-of .result) (c .uses-diagonal .result) (at .cell-at .ensures) (omega arith) (omega arith) (omega (arith, turn .loop-test .taken)) (s .pre .1 .2)
+          blank-put (l .loop .next) (cell .cell-of .result) (c .uses-diagonal .result) (at .cell-at .ensures) (omega arith) (omega arith)
+          (omega (arith, turn .loop-test .taken)) (s .pre .1 .2)
           (l .loop .inv .3 blank),
     )
 

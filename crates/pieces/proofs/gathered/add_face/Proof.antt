@@ -20,8 +20,12 @@ returns c =
     let s = c .before .before in
     let a = s .args in
     let mark : ℕ → Bool = λ n. getD (now (a .marks)) n false in
-    let keys = now (a .keys) in
-    (s .pre .0, omega arith, passed-over (take (a .n) keys) (now (a .marks)) (a .x, a .y, a .z) (rw (not-true (mark (a .x)) (c .if1 .taken))))
+    let keys = now (a .keys) in (
+      s .pre .0,
+      omega arith,
+      passed-over (take (a .n) keys) (now (a .marks)) (a .x, a .y, a .z)
+          (rw (not-true (mark (a .x)) (c .if1 .taken))),
+    )
 
 element-copy-out-if2 : tie.Need-element-copy-out-if2
 element-copy-out-if2 c = search needs
@@ -32,8 +36,12 @@ returns-2 c =
     let s = one .before .before in
     let a = s .args in
     let mark : ℕ → Bool = λ n. getD (now (a .marks)) n false in
-    let keys = now (a .keys) in
-    (s .pre .0, omega arith, passed-over (take (a .n) keys) (now (a .marks)) (a .x, a .y, a .z) (rw (not-false (mark (a .x)) (one .if1 .left), not-true (mark (a .y)) (c .if2 .taken))))
+    let keys = now (a .keys) in (
+      s .pre .0,
+      omega arith,
+      passed-over (take (a .n) keys) (now (a .marks)) (a .x, a .y, a .z)
+          (rw (not-false (mark (a .x)) (one .if1 .left), not-true (mark (a .y)) (c .if2 .taken))),
+    )
 
 element-copy-out-if3 : tie.Need-element-copy-out-if3
 element-copy-out-if3 c = search needs
@@ -45,8 +53,12 @@ returns-3 c =
     let s = one .before .before in
     let a = s .args in
     let mark : ℕ → Bool = λ n. getD (now (a .marks)) n false in
-    let keys = now (a .keys) in
-    (s .pre .0, omega arith, passed-over (take (a .n) keys) (now (a .marks)) (a .x, a .y, a .z) (rw (not-false (mark (a .x)) (one .if1 .left), not-false (mark (a .y)) (two .if2 .left), not-true (mark (a .z)) (c .if3 .taken))))
+    let keys = now (a .keys) in (
+      s .pre .0,
+      omega arith,
+      passed-over (take (a .n) keys) (now (a .marks)) (a .x, a .y, a .z)
+          (rw (not-false (mark (a .x)) (one .if1 .left), not-false (mark (a .y)) (two .if2 .left), not-true (mark (a .z)) (c .if3 .taken))),
+    )
 
 face-key-requires : tie.Need-face-key-requires
 face-key-requires c κs = search needs
@@ -68,7 +80,11 @@ returns-4 c =
     let s = one .before .before in
     let a = s .args in
     let mark : ℕ → Bool = λ n. getD (now (a .marks)) n false in
-    let all : marked (now (a .marks)) (a .x, a .y, a .z) ≡ true = rw (not-false (mark (a .x)) (one .if1 .left), not-false (mark (a .y)) (two .if2 .left), not-false (mark (a .z)) (three .if3 .left)) in (
+    let all : marked (now (a .marks)) (a .x, a .y, a .z) ≡ true = rw (
+      not-false (mark (a .x)) (one .if1 .left),
+      not-false (mark (a .y)) (two .if2 .left),
+      not-false (mark (a .z)) (three .if3 .left),
+    ) in (
       simp length-set (s .pre .0),
       omega arith,
       stored (now (a .keys)) (now (a .marks)) (a .x, a .y, a .z) (a .n) (c .face-key .result) (omega arith) all (c .face-key .ensures),

@@ -46,7 +46,8 @@ returns-2 c =
     let kept = row-kept marks (a .a) (a .b) row (sym (e .before .holds-edge .ensures) ∙ e .if1 .left) in (
       c .add-face4 .ensures .0,
       omega arith,
-      four (take (a .n) (now (a .keys))) marks (row .q, row .r, row .s) (row .p, row .s, row .r) (row .p, row .q, row .s) (row .p, row .r, row .q)
+      four (take (a .n) (now (a .keys))) marks (row .q, row .r, row .s) (row .p, row .s, row .r)
+          (row .p, row .q, row .s) (row .p, row .r, row .q)
           (one .add-face .ensures .2) (two .add-face2 .ensures .2) (three .add-face3 .ensures .2) (c .add-face4 .ensures .2)
           ∙ ap (λ ks. take (a .n) (now (a .keys)) ++ ks) (sym kept),
     )

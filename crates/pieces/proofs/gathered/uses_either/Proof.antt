@@ -21,7 +21,8 @@ among-requires-2 c κs = search needs
 returns-2 : tie.Need-returns-2
 returns-2 c =
     let e = c .before .before in
-    rw (← e .before .before .face-key .ensures, ← e .before .among .ensures, e .if1 .left, ← c .before .face-key2 .ensures) (c .among2 .ensures)
+    rw (← e .before .before .face-key .ensures, ← e .before .among .ensures, e .if1 .left, ← c .before .face-key2 .ensures)
+    (c .among2 .ensures)
 
 pub uses-either-spec : {M : Type 1} → statement M
 uses-either-spec =

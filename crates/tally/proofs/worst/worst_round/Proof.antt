@@ -1,6 +1,5 @@
 -- The invariant of `worst_round`: what was met is the worst of those of the first i rows that hold both ends.
-use Prim.Native.Nat.{ℕ, _≤_, _-_}
-use mathlib.Core.Bool.{Bool, _&&_}
+use Prim.Native.Nat.{_≤_, _-_}
 use mathlib.Core.List.{map}
 use mathlib.Core.Logic.{⊎-elim}
 use mathlib.Core.Path.{_≡_, refl, sym, ap, _∙_}
@@ -9,21 +8,16 @@ use native.Mathlib.Omega.{arith}
 use borrow.Author.Needs.{needs}
 use Rattle.lists.specs.Lists.{numbersFrom, those}
 use Rattle.measure.specs.Measure.{pointsIn, worst}
-use Rattle.mesh.specs.declared.Row.{Row}
-use Rattle.mesh.specs.Mesh.{rowIn, rowsIn, holds, rowQuality}
+use Rattle.mesh.specs.Mesh.{rowIn, rowsIn, holdsEdge, rowQuality}
 use Rattle.tally.specs.Kept.{orZero}
 use Rattle.tally.proofs.Places.{measured-row}
 use Rattle.tally.proofs.Worsts.{met, or-zero-of, passing-met, other-met}
 use Rattle.tally.proofs.worst.worst_round.Statement.{statement}
 use Rattle.tally.proofs.worst.worst_round.Tie as tie
 
--- the row holds both ends
-abbrev both : ℕ → ℕ → Row → Bool
-both a b row = holds row a && holds row b
-
 abbrev Inv-loop : tie.InvT-loop
 Inv-loop coordinates count table n a b m₀ i₀ m i =
-    (i ≤ n) × (m ≡ met (worst (map (rowQuality (pointsIn coordinates count)) (those (both a b) (rowsIn table i)))))
+    (i ≤ n) × (m ≡ met (worst (map (rowQuality (pointsIn coordinates count)) (those (holdsEdge a b) (rowsIn table i)))))
 
 abbrev μ-loop : tie.MeasureT-loop
 μ-loop coordinates count table n a b m₀ i₀ m i = n - i
@@ -35,8 +29,8 @@ loop-holds c = (omega arith, refl)
 row-in-requires : tie.Need-row-in-requires Inv-loop μ-loop
 row-in-requires c κs = omega arith
 
-row-holds-both-requires : tie.Need-row-holds-both-requires Inv-loop μ-loop
-row-holds-both-requires c κs = search needs
+holds-edge-requires : tie.Need-holds-edge-requires Inv-loop μ-loop
+holds-edge-requires c κs = search needs
 
 row-quality-requires : tie.Need-row-quality-requires Inv-loop μ-loop
 row-quality-requires c κs =
@@ -60,9 +54,9 @@ loop-again c =
     let i = l .loop .i in
     let table = a .table .now in
     let f = rowQuality (pointsIn (a .coordinates .now) (a .count)) in
-    let p = both (a .a) (a .b) in
+    let p = holdsEdge (a .a) (a .b) in
     let is = k .before .row-in .ensures in
-    let test : p (rowIn table i) ≡ k .row-holds-both .result = ap p (sym is) ∙ sym (k .row-holds-both .ensures) in (
+    let test : p (rowIn table i) ≡ k .holds-edge .result = ap p (sym is) ∙ sym (k .holds-edge .ensures) in (
       omega arith,
       ⊎-elim
           (λ w. w .3 ∙ w .2 .ensures ∙ rw (l .loop .inv .1, w .1 .ensures, is, add-one) (passing-met f table i p (test ∙ w .0 .taken)))
@@ -80,7 +74,8 @@ returns c =
     let e : l .loop .i ≡ a .n = omega arith in
     c .or-zero .ensures
     ∙ ap orZero (rw e at (l .loop .inv .1))
-    ∙ or-zero-of (worst (map (rowQuality (pointsIn (a .coordinates .now) (a .count))) (those (both (a .a) (a .b)) (rowsIn (a .table .now) (a .n)))))
+    ∙ or-zero-of (worst (map (rowQuality (pointsIn (a .coordinates .now) (a .count)))
+    (those (holdsEdge (a .a) (a .b)) (rowsIn (a .table .now) (a .n)))))
 
 pub worst-round-spec : {M : Type 1} → statement M
 worst-round-spec =
@@ -90,7 +85,7 @@ worst-round-spec =
     μ-loop
     loop-holds
     row-in-requires
-    row-holds-both-requires
+    holds-edge-requires
     row-quality-requires
     with-requires
     add-i

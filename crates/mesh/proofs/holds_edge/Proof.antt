@@ -2,8 +2,8 @@
 use mathlib.Core.Bool.{Bool, true, false, _&&_}
 use mathlib.Core.Path.{_≡_, sym, _∙_}
 use borrow.Author.Needs.{needs}
-use Rattle.ring.proofs.holds_edge.Statement.{statement}
-use Rattle.ring.proofs.holds_edge.Tie as tie
+use Rattle.mesh.proofs.holds_edge.Statement.{statement}
+use Rattle.mesh.proofs.holds_edge.Tie as tie
 
 row-holds-requires : tie.Need-row-holds-requires
 row-holds-requires c κs = search needs

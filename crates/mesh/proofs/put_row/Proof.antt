@@ -1,14 +1,11 @@
--- `write_row` stores the five bytes of a row next to one another.
-use Prim.Native.Nat.{_*_}
-use mathlib.Core.List.{flatMap}
+-- `put_row` stores the five bytes of a row next to one another.
 use native.Mathlib.Omega.{arith}
 use lib.ListN.{length-set}
 use denote.Ref.{now}
 use borrow.Author.Needs.{needs}
-use Rattle.mesh.specs.Mesh.{rowSize}
-use Rattle.pieces.proofs.Pasting.{row-written}
-use Rattle.pieces.proofs.expanded.write_row.Statement.{statement}
-use Rattle.pieces.proofs.expanded.write_row.Tie as tie
+use Rattle.mesh.proofs.Pasted.{with-one}
+use Rattle.mesh.proofs.put_row.Statement.{statement}
+use Rattle.mesh.proofs.put_row.Tie as tie
 
 mul-at : tie.Need-mul-at
 mul-at c = search needs
@@ -44,11 +41,10 @@ same-length : tie.Need-same-length
 same-length c = search needs
 
 returns : tie.Need-returns
-unfolding flatMap
-returns c = let a = c .args in row-written (now (a .table)) (rowSize * a .i) (a .row) (c .pre)
+returns c = let a = c .args in with-one (now (a .table)) (a .i) (a .row) (c .pre)
 
-pub write-row-spec : {M : Type 1} → statement M
-write-row-spec =
+pub put-row-spec : {M : Type 1} → statement M
+put-row-spec =
     tie.close
     (tie.spec
     mul-at
