@@ -6,7 +6,7 @@ use mathlib.Core.Path.{_≡_, refl, ap, _∙_}
 use native.Mathlib.Nat.{div-add-mod'}
 use native.Mathlib.Omega.{arith}
 use lib.Dec.{T, ltb, nltb→le}
-use Rattle.patch.specs.Printout.{digit, decimalWithin, decimal}
+use Rattle.printout.specs.Printout.{digit, decimalWithin, decimal}
 
 -- a tenth of a number of two digits or more is smaller
 tenth : (n : ℕ) → 10 ≤ n → n / 10 < n
