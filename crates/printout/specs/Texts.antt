@@ -18,6 +18,6 @@ textOf bytes = record { n = length bytes; bytes = filled textBytes bytes }
 unfoldable pub held : List ℕ → Text
 held bytes = textOf (take textBytes bytes)
 
--- some bytes are put behind those of a text, as many as there is room for
-abbrev pub Behind : Text → List ℕ → Text → Type 0
-Behind text bytes after = (front : List ℕ) → text ≡ held front → after ≡ held (front ++ bytes)
+-- Some bytes are put behind those of a text, as many as there is room for.
+pub record Behind (text : Text) (bytes : List ℕ) (after : Text) : Type 0 where
+  pub put : (front : List ℕ) → text ≡ held front → after ≡ held (front ++ bytes)
