@@ -1,7 +1,7 @@
 -- Bytes put behind a text: one byte where there is room, none where there is not; bytes put after bytes are one piece, and fields put
 -- after fields are one line.
 use Prim.Native.Nat.{ℕ, _+_, _-_, _≤_, _<_, min}
-use mathlib.Core.List.{List, [], _∷_, _++_, flatMap, append-assoc, append-nil}
+use mathlib.Core.List.{List, [], _∷_, _++_, map, flatMap, append-assoc, append-nil}
 use mathlib.Core.Path.{_≡_, refl, sym, ap, ap₂, _∙_}
 use native.Mathlib.Omega.{arith}
 use lib.ListN.{length, take, set, replicate, length-take, length-append, length-replicate}
@@ -9,7 +9,7 @@ use lib.Seq.{take-all, take-append-le, sets-eq}
 use Rattle.block.specs.Layout.{filled}
 use Rattle.output.proofs.Pasted.{pasted-filled}
 use Rattle.printout.specs.declared.Text.{Text}
-use Rattle.printout.specs.Printout.{spaced, lineEnd, ended}
+use Rattle.printout.specs.Printout.{decimal, spaced, lineEnd, ended}
 use Rattle.printout.specs.Texts.{textBytes, textOf, held, Behind}
 
 -- ---- what a text holds
@@ -86,3 +86,15 @@ pub field-put : (field : List ℕ) (fields : List (List ℕ)) {text middle after
     → Behind middle (ended fields) after → Behind text (ended (field ∷ fields)) after
 unfolding ended flatMap
 field-put field fields p q = rw append-assoc (then-put p q)
+
+-- the fields, and then the end of the line
+pub fields-put : (fields : List (List ℕ)) {text middle after : Text} → Behind text (flatMap spaced fields) middle → Behind middle lineEnd after
+    → Behind text (ended fields) after
+unfolding ended
+fields-put fields p q = then-put p q
+
+-- one number more among the fields
+pub fields-more : (ns : List ℕ) (n : ℕ) → flatMap spaced (map decimal (ns ++ n ∷ [])) ≡ flatMap spaced (map decimal ns) ++ spaced (decimal n)
+unfolding flatMap
+fields-more [] n = append-nil (spaced (decimal n))
+fields-more (k ∷ ns) n = rw (fields-more ns n) (sym (append-assoc (spaced (decimal k)) (flatMap spaced (map decimal ns)) (spaced (decimal n))))

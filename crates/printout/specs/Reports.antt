@@ -26,6 +26,7 @@ doneLines before after ring output =
 pub record Reportable (ring : Ring) (output : List ℕ) : Type 0 where
   pub from-three : minRing ≤ ring .m
   pub to-ten : ring .m ≤ maxRing
+  pub points : length (ring .v) ≡ maxRing
   pub size : length output ≡ blockBytes
   pub few-rows : rowCount output ≤ maxRows
   pub new-rows : 2 * (ring .m - 2) ≤ rowCount output

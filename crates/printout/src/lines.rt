@@ -1,5 +1,6 @@
 // The lines of a printout, each put behind a text.
 ghost use mathlib.Core.List.{flatMap};
+ghost use mathlib.Core.Path.{_≡_};
 ghost use Prim.Native.Nat.{_*_, _≤_};
 ghost use lib.ListN.{length, take, drop};
 ghost use Rattle.mesh.specs.Mesh.{rowSize, rowsIn};
@@ -84,7 +85,7 @@ pub fn put_summary(text: Text, summary: Summary) -> Text
 
 // The line of the ring.
 pub fn put_ring(text: Text, ring: Ring) -> Text
-    requires { ⌜ ring .m ≤ maxRing ⌝ }
+    requires { ⌜ (ring .m ≤ maxRing) × (length (ring .v) ≡ maxRing) ⌝ }
     ensures { λ r. ⌜ Behind text (ringLine (take (ring .m) (ring .v))) r ⌝ }
 {
     let mut line = put_word(text, b"ring");

@@ -1,64 +1,72 @@
+-- The invariant of `put_ring`: the first i points of the ring stand behind the word, each as a field.
+use Prim.Native.Nat.{_≤_, _<_, _-_}
+use mathlib.Core.List.{_++_, [], _∷_, map, flatMap, append-assoc}
+use mathlib.Core.Path.{_≡_, refl}
+use native.Mathlib.Numerals.{add-one}
+use native.Mathlib.Omega.{arith}
+use borrow.Author.Needs.{needs}
+use lib.ListN.{length, getD, take}
+use lib.Seq.{take-suc}
+use Rattle.lists.proofs.Images.{flatMap-snoc}
+use Rattle.printout.specs.Printout.{text, decimal, spaced, line, ended}
+use Rattle.printout.specs.Texts.{Behind}
+use Rattle.printout.proofs.Putting.{none-put, then-put, fields-put, fields-more}
 use Rattle.printout.proofs.lines.put_ring.Statement.{statement}
 use Rattle.printout.proofs.lines.put_ring.Tie as tie
-use Rattle.printout.proofs.lines.put_ring.Reads as reads
-use Rattle.printout.proofs.lines.put_ring.Lts as lts
-use Rattle.printout.proofs.lines.put_end.Reads as put-end-reads
-use Rattle.printout.proofs.lines.put_number.Reads as put-number-reads
-use Rattle.printout.proofs.words.put_word.Reads as put-word-reads
 
 abbrev Inv-loop : tie.InvT-loop
-Inv-loop line₀ m v i₀ line i = ?
+Inv-loop line₀ m v i₀ line i = (i ≤ m) × Behind line₀ (flatMap spaced (map decimal (take i v))) line
 
 abbrev μ-loop : tie.MeasureT-loop
-μ-loop line₀ m v i₀ line i = ?
+μ-loop line₀ m v i₀ line i = m - i
 
--- src/lines.rt:90:35
 slice-aggregate-put-word : tie.Need-slice-aggregate-put-word Inv-loop μ-loop
-slice-aggregate-put-word c = ?
+slice-aggregate-put-word c = refl
 
--- src/lines.rt:90:9
 put-word-requires : tie.Need-put-word-requires Inv-loop μ-loop
-put-word-requires c κs = ?
+put-word-requires c κs = tt
 
--- src/lines.rt:91:13
 cast-m : tie.Need-cast-m Inv-loop μ-loop
-cast-m c = ?
+cast-m c = search needs
 
--- src/lines.rt:93:5
 loop-holds : tie.Need-loop-holds Inv-loop μ-loop
-loop-holds c = ?
+unfolding flatMap
+loop-holds c = (omega arith, none-put _)
 
--- src/lines.rt:94:33
 array-read-put-number : tie.Need-array-read-put-number Inv-loop μ-loop
-array-read-put-number c = ?
+array-read-put-number c = omega arith
 
--- src/lines.rt:94:33
 cast-put-number : tie.Need-cast-put-number Inv-loop μ-loop
-cast-put-number c = ?
+cast-put-number c = search needs
 
--- src/lines.rt:94:9
 put-number-requires : tie.Need-put-number-requires Inv-loop μ-loop
-put-number-requires c κs = ?
+put-number-requires c κs = tt
 
--- src/lines.rt:93:9
 add-i : tie.Need-add-i Inv-loop μ-loop
-add-i c = ?
+add-i c = omega arith
 
--- src/lines.rt:93:5
 loop-less : tie.Need-loop-less Inv-loop μ-loop
-loop-less c = ?
+loop-less c = omega arith
 
--- src/lines.rt:93:5
 loop-again : tie.Need-loop-again Inv-loop μ-loop
-loop-again c = ?
+loop-again c =
+    let l = c .before .before in
+    let v = l .before .before .before .before .before .args .ring .v in
+    let i = l .loop .i in
+    let more = fields-more (take i v) (getD v i 0) in
+    (omega arith, rw (add-one i, take-suc v i 0 (omega (arith, l .before .before .before .before .before .pre)), more) (then-put (l .loop .inv .1) (c .put-number .ensures)))
 
--- src/lines.rt:96:5
 put-end-requires : tie.Need-put-end-requires Inv-loop μ-loop
-put-end-requires c κs = ?
+put-end-requires c κs = tt
 
--- src/lines.rt:86:1
 returns : tie.Need-returns Inv-loop μ-loop
-returns c = ?
+unfolding line text
+returns c =
+    let l = c .before .before in
+    let start = l .before .before .before .before .before in
+    let ring = start .args .ring in
+    let e : l .loop .i ≡ ring .m = omega arith in
+    then-put (l .before .before .before .put-word .ensures) (fields-put _ (rw e at (l .loop .inv .1)) (c .put-end .ensures))
 
 pub put-ring-spec : {M : Type 1} → statement M
 put-ring-spec =

@@ -1,43 +1,62 @@
+-- The invariant of `put_rows`: the lines of the rows up to row i stand behind the text.
+use Prim.Native.Nat.{_≤_, _-_}
+use mathlib.Core.List.{_++_, [], _∷_, flatMap}
+use mathlib.Core.Path.{_≡_, refl}
+use native.Mathlib.Numerals.{add-one}
+use native.Mathlib.Omega.{arith}
+use lib.ListN.{length, drop, drop-of-length-le}
+use lib.Seq.{drop-append-le}
+use Rattle.lists.proofs.Images.{flatMap-snoc}
+use Rattle.mesh.specs.Mesh.{rowIn, rowsIn}
+use Rattle.mesh.proofs.Tables.{rows-length, rows-more}
+use Rattle.printout.specs.Printout.{rowLine}
+use Rattle.printout.specs.Texts.{Behind}
+use Rattle.printout.proofs.Putting.{none-put, then-put}
 use Rattle.printout.proofs.lines.put_rows.Statement.{statement}
 use Rattle.printout.proofs.lines.put_rows.Tie as tie
-use Rattle.printout.proofs.lines.put_rows.Reads as reads
-use Rattle.printout.proofs.lines.put_rows.Lts as lts
-use Rattle.mesh.proofs.row_in.Reads as row-in-reads
-use Rattle.printout.proofs.lines.put_row.Reads as put-row-reads
 
 abbrev Inv-loop : tie.InvT-loop
-Inv-loop table from n lines₀ i₀ lines i = ?
+Inv-loop table from n lines₀ i₀ lines i = (from ≤ i) × (i ≤ n) × Behind lines₀ (flatMap rowLine (drop from (rowsIn table i))) lines
 
 abbrev μ-loop : tie.MeasureT-loop
-μ-loop table from n lines₀ i₀ lines i = ?
+μ-loop table from n lines₀ i₀ lines i = n - i
 
--- src/lines.rt:117:5
 loop-holds : tie.Need-loop-holds Inv-loop μ-loop
-loop-holds c = ?
+unfolding flatMap
+loop-holds c = 
+    let a = c .before .args in
+    let none = drop-of-length-le (rowsIn (a .table .now) (a .from)) {i = a .from} (omega (arith, rows-length (a .table .now) (a .from))) in
+    (omega arith, omega arith, rw none (none-put _))
 
--- src/lines.rt:118:32
 row-in-requires : tie.Need-row-in-requires Inv-loop μ-loop
-row-in-requires c κs = ?
+row-in-requires c κs = omega arith
 
--- src/lines.rt:118:9
 put-row-requires : tie.Need-put-row-requires Inv-loop μ-loop
-put-row-requires c κs = ?
+put-row-requires c κs = tt
 
--- src/lines.rt:117:9
 add-i : tie.Need-add-i Inv-loop μ-loop
-add-i c = ?
+add-i c = omega arith
 
--- src/lines.rt:117:5
 loop-less : tie.Need-loop-less Inv-loop μ-loop
-loop-less c = ?
+loop-less c = omega arith
 
--- src/lines.rt:117:5
 loop-again : tie.Need-loop-again Inv-loop μ-loop
-loop-again c = ?
+loop-again c =
+    let l = c .before .before .before in
+    let a = l .before .before .args in
+    let i = l .loop .i in
+    let rows = rowsIn (a .table .now) i in
+    let last = rowIn (a .table .now) i in
+    let all = rows-more (a .table .now) i in
+    let behind = drop-append-le (a .from) rows (last ∷ []) (omega (arith, rows-length (a .table .now) i)) in
+    let lines = flatMap-snoc rowLine (drop (a .from) rows) last in
+    (omega arith, omega arith, rw (add-one i, all, behind, lines, ← c .before .row-in .ensures) (then-put (l .loop .inv .2) (c .put-row .ensures)))
 
--- src/lines.rt:112:1
 returns : tie.Need-returns Inv-loop μ-loop
-returns c = ?
+returns c = 
+    let l = c .before in
+    let e : l .loop .i ≡ l .before .before .args .n = omega arith in
+    rw e at (l .loop .inv .2)
 
 pub put-rows-spec : {M : Type 1} → statement M
 put-rows-spec =
