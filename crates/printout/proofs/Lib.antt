@@ -1,3 +1,4 @@
 pub mod Decimal
 pub mod Printing
 pub mod Putting
+pub mod Done
