@@ -72,7 +72,7 @@ pub fn print(input: &[u8]) -> Text
     }
     let e = input[BLOCK_BYTES] as usize;
     let f = input[BLOCK_BYTES + 1] as usize;
-    let block = &input[..BLOCK_BYTES];
+    let block = &input[0..BLOCK_BYTES];
     let mut output = [0u8; BLOCK_BYTES];
     let removed = patch::remove(block, e, f, &mut output);
     let removal = removed.removal;

@@ -46,7 +46,7 @@ put-end-requires c κs = search needs
 
 returns : tie.Need-returns
 unfolding line text
-returns c = 
+returns c =
     then-put (c .before .before .before .before .before .before .before .before .before .before .before .put-word .ensures)
     (field-put _ _ (c .before .before .before .before .before .before .before .before .before .put-number .ensures)
     (field-put _ _ (c .before .before .before .before .before .before .before .put-number2 .ensures)

@@ -23,7 +23,7 @@ abbrev μ-loop : tie.MeasureT-loop
 
 loop-holds : tie.Need-loop-holds Inv-loop μ-loop
 unfolding flatMap
-loop-holds c = 
+loop-holds c =
     let a = c .before .args in
     let none = drop-of-length-le (rowsIn (a .table .now) (a .from)) {i = a .from} (omega (arith, rows-length (a .table .now) (a .from))) in
     (omega arith, omega arith, rw none (none-put _))
@@ -53,7 +53,7 @@ loop-again c =
     (omega arith, omega arith, rw (add-one i, all, behind, lines, ← c .before .row-in .ensures) (then-put (l .loop .inv .2) (c .put-row .ensures)))
 
 returns : tie.Need-returns Inv-loop μ-loop
-returns c = 
+returns c =
     let l = c .before in
     let e : l .loop .i ≡ l .before .before .args .n = omega arith in
     rw e at (l .loop .inv .2)

@@ -34,7 +34,7 @@ put-end-requires c κs = search needs
 
 returns : tie.Need-returns
 unfolding summaryFields
-returns c = 
+returns c =
     field-put _ _ (c .before .before .before .before .before .before .before .put-number .ensures)
     (field-put _ _ (c .before .before .before .before .before .put-number2 .ensures)
     (field-put _ _ (c .before .before .before .put-number3 .ensures)

@@ -1,137 +1,148 @@
+-- `print` leaves on a wrong length and on a refusal; otherwise it reports.
+use native.Mathlib.Omega.{arith}
+use Rattle.printout.proofs.Short.{all-bytes}
+use Rattle.printout.proofs.Printed.{wrong-length, refusal, given-opens, written-opens, report-asks, reported}
 use borrow.Author.Needs.{needs}
 use Rattle.printout.proofs.report.print.Statement.{statement}
 use Rattle.printout.proofs.report.print.Tie as tie
-use Rattle.printout.proofs.report.print.Reads as reads
-use Rattle.printout.proofs.report.print.Lts as lts
-use Rattle.patch.proofs.remove.Reads as remove-reads
-use Rattle.patch.proofs.summary.Reads as summary-reads
-use Rattle.printout.proofs.report.answered.Reads as answered-reads
-use Rattle.printout.proofs.report.removal_number.Reads as removal-number-reads
-use Rattle.printout.proofs.report.report.Reads as report-reads
-use Rattle.printout.proofs.report.summary_number.Reads as summary-number-reads
 
--- src/report.rt:71:9
 answered-requires : tie.Need-answered-requires
 answered-requires c κs = search needs
 
--- src/report.rt:71:9
 returns : tie.Need-returns
-returns c = ?
+returns c =
+    let known = c .before .before in
+    let input = known .before .args .input .now in
+    wrong-length input (all-bytes input (known .shared-slice-known .given)) (c .before .if1 .taken) (c .answered .ensures)
 
--- src/report.rt:73:13
 shared-slice-read-e : tie.Need-shared-slice-read-e
 shared-slice-read-e c = search needs
 
--- src/report.rt:73:13
 cast-e : tie.Need-cast-e
-cast-e c = ?
+cast-e c = omega (arith, c .shared-slice-known2 .given 512)
 
--- src/report.rt:74:19
 add-f : tie.Need-add-f
 add-f c = search needs
 
--- src/report.rt:74:13
 shared-slice-read-f : tie.Need-shared-slice-read-f
 shared-slice-read-f c = search needs
 
--- src/report.rt:74:13
 cast-f : tie.Need-cast-f
-cast-f c = ?
+cast-f c = omega (arith, c .shared-slice-known3 .given 513)
 
--- src/report.rt:75:9
-slice-aggregate-block : tie.Need-slice-aggregate-block
-slice-aggregate-block c = ?
+sub-block : tie.Need-sub-block
+sub-block c = search needs
 
--- src/report.rt:77:46
+part-block-start : tie.Need-part-block-start
+part-block-start c = search needs
+
+part-block-end : tie.Need-part-block-end
+part-block-end c = search needs
+
 slice-aggregate-remove : tie.Need-slice-aggregate-remove
 slice-aggregate-remove c = search needs
 
--- src/report.rt:77:9
 remove-requires : tie.Need-remove-requires
 remove-requires c κs = search needs
 
 enum-told : tie.Need-enum-told
 enum-told c = search needs
 
--- src/report.rt:81:25
 enum-told-2 : tie.Need-enum-told-2
 enum-told-2 c = search needs
 
--- src/report.rt:81:25
 removal-number-requires : tie.Need-removal-number-requires
 removal-number-requires c κs = search needs
 
--- src/report.rt:81:9
 answered-requires-2 : tie.Need-answered-requires-2
 answered-requires-2 c κs = search needs
 
--- src/report.rt:81:9
 returns-2 : tie.Need-returns-2
-returns-2 c = ?
+returns-2 c =
+    let call = c .before .before .before .before .before .before in
+    let size = call .before .before .before .before .before in
+    let known = size .before in
+    let input = known .before .args .input .now in
+    refusal input (all-bytes input (known .shared-slice-known .given)) (size .if1 .left) _ (call .remove .ensures .0)
+    (c .before .before .enum-told2 .given .1) (c .before .removal-number .ensures) (c .answered2 .ensures)
 
--- src/report.rt:83:9
 summary-requires : tie.Need-summary-requires
 summary-requires c κs = search needs
 
--- src/report.rt:84:29
 enum-known-given : tie.Need-enum-known-given
 enum-known-given c = search needs
 
--- src/report.rt:85:25
 enum-told-3 : tie.Need-enum-told-3
 enum-told-3 c = search needs
 
--- src/report.rt:85:25
 summary-number-requires : tie.Need-summary-number-requires
 summary-number-requires c κs = search needs
 
--- src/report.rt:85:9
 answered-requires-3 : tie.Need-answered-requires-3
 answered-requires-3 c κs = search needs
 
--- src/report.rt:85:9
 returns-3 : tie.Need-returns-3
-returns-3 c = ?
+returns-3 c =
+    let call = c .before .before .before .before .before .before .before .before .before in
+    let size = call .before .before .before .before .before in
+    let known = size .before in
+    let input = known .before .args .input .now in
+    let told = c .before .before .before .before .before in
+    absurd
+    (given-opens input (all-bytes input (known .shared-slice-known .given)) (size .if1 .left) _ (call .remove .ensures .0) _ (told .enum-told .given .1)
+    (c .before .before .before .before .summary .ensures) (c .before .before .enum-told3 .given .1))
 
--- src/report.rt:87:34
 slice-aggregate-summary : tie.Need-slice-aggregate-summary
 slice-aggregate-summary c = search needs
 
--- src/report.rt:87:9
 summary-requires-2 : tie.Need-summary-requires-2
 summary-requires-2 c κs = search needs
 
--- src/report.rt:88:29
 enum-known-written : tie.Need-enum-known-written
 enum-known-written c = search needs
 
--- src/report.rt:89:25
 enum-told-4 : tie.Need-enum-told-4
 enum-told-4 c = search needs
 
--- src/report.rt:89:25
 summary-number-requires-2 : tie.Need-summary-number-requires-2
 summary-number-requires-2 c κs = search needs
 
--- src/report.rt:89:9
 answered-requires-4 : tie.Need-answered-requires-4
 answered-requires-4 c κs = search needs
 
--- src/report.rt:89:9
 returns-4 : tie.Need-returns-4
-returns-4 c = ?
+returns-4 c =
+    let call = c .before .before .before .before .before .before .before .before .before .before .before .before .before .before in
+    let size = call .before .before .before .before .before in
+    let known = size .before in
+    let input = known .before .args .input .now in
+    let told = c .before .before .before .before .before .before .before .before .before .before in
+    absurd
+    (written-opens input (all-bytes input (known .shared-slice-known .given)) (size .if1 .left) _ (call .remove .ensures .0) _ (told .enum-told .given .1) _
+    (call .remove .ensures .1) (c .before .before .before .before .summary2 .ensures) (c .before .before .enum-told4 .given .1))
 
--- src/report.rt:91:33
 slice-aggregate-report : tie.Need-slice-aggregate-report
 slice-aggregate-report c = search needs
 
--- src/report.rt:91:5
 report-requires : tie.Need-report-requires
-report-requires c κs = ?
+report-requires c κs =
+    let call = c .before .before .before .before .before .before .before .before .before .before .before .before .before .before in
+    let size = call .before .before .before .before .before in
+    let known = size .before in
+    let input = known .before .args .input .now in
+    let told = c .before .before .before .before .before .before .before .before .before .before in
+    report-asks input (all-bytes input (known .shared-slice-known .given)) (size .if1 .left) _ (call .remove .ensures .0) _ (told .enum-told .given .1) _
+    (call .remove .ensures .1)
 
--- src/report.rt:67:1
 returns-5 : tie.Need-returns-5
-returns-5 c = ?
+returns-5 c =
+    let call = c .before .before .before .before .before .before .before .before .before .before .before .before .before .before .before in
+    let size = call .before .before .before .before .before in
+    let known = size .before in
+    let input = known .before .args .input .now in
+    let told = c .before .before .before .before .before .before .before .before .before .before .before in
+    reported input (all-bytes input (known .shared-slice-known .given)) (size .if1 .left) _ (call .remove .ensures .0) _ (told .enum-told .given .1) _
+    (call .remove .ensures .1) (c .before .before .before .before .before .before .before .before .before .before .summary .ensures) (c .before .before .before .before .before .summary2 .ensures) (c .before .before .before .before .before .before .before .before .given .given .1) (c .before .before .before .written .given .1) (c .report .ensures)
 
 pub print-spec : {M : Type 1} → statement M
 print-spec =
@@ -144,7 +155,9 @@ print-spec =
     add-f
     shared-slice-read-f
     cast-f
-    slice-aggregate-block
+    sub-block
+    part-block-start
+    part-block-end
     slice-aggregate-remove
     remove-requires
     enum-told

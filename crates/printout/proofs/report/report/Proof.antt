@@ -62,7 +62,7 @@ put-rows-requires c κs = search needs
 
 returns : tie.Need-returns
 unfolding line text fieldsOf
-returns c = 
+returns c =
     let ring = c .before .before .before .before in
     let after = ring .before in
     let before = after .before .before .before in
