@@ -1,6 +1,6 @@
 -- The program's ways out, each with the text that the definition asks for: a wrong length, a refusal, a report. The summaries are never
 -- refused.
-use Prim.Native.Nat.{ℕ, suc, _+_}
+use Prim.Native.Nat.{ℕ, suc, _+_, _≤_}
 use mathlib.Core.List.{List}
 use mathlib.Core.Path.{_≡_, sym, ap, _∙_}
 use lib.Dec.{T}
@@ -23,7 +23,7 @@ use Rattle.patch.proofs.Second.{demand-2}
 use Rattle.patch.proofs.Standing.{summary-opened}
 use Rattle.printout.specs.declared.Text.{Text}
 use Rattle.printout.specs.Printout.{answerLine, printout}
-use Rattle.printout.specs.Texts.{textOf, held}
+use Rattle.printout.specs.Texts.{textBytes, textOf, held}
 use Rattle.printout.specs.Reports.{doneLines, Reportable}
 use Rattle.printout.proofs.Done.{number-is, done-answer, refused-answer, never-refused, reportable, done-lines}
 use Rattle.printout.proofs.Printing.{printed-length, printed-refusal, printed-done}
@@ -31,13 +31,16 @@ use Rattle.printout.proofs.Putting.{held-all}
 use Rattle.printout.proofs.Short.{printout-short}
 
 module _ (input : List ℕ) (bytes : T (every isByte input)) where
-  -- the whole printout is held
-  whole : held (printout input) ≡ textOf (printout input)
-  whole = held-all (printout input) (printout-short input bytes)
+  -- the text of the printout, which has room for all of it
+  abbrev pub Printed : Text → Type 0
+  Printed text = (text ≡ textOf (printout input)) × (length (printout input) ≤ textBytes)
+
+  whole : {text : Text} → text ≡ held (printout input) → Printed text
+  whole t = let fits = printout-short input bytes in (t ∙ held-all (printout input) fits, fits)
 
   -- a wrong length
-  pub wrong-length : (length input ≡ blockBytes + 2 → ⊥) → {text : Text} → text ≡ held (answerLine 1) → text ≡ textOf (printout input)
-  wrong-length h t = t ∙ (ap held (sym (printed-length input h)) ∙ whole)
+  pub wrong-length : (length input ≡ blockBytes + 2 → ⊥) → {text : Text} → text ≡ held (answerLine 1) → Printed text
+  wrong-length h t = whole (t ∙ ap held (sym (printed-length input h)))
 
   module _ (size : length input ≡ blockBytes + 2) where
     abbrev block : List ℕ
@@ -55,11 +58,12 @@ module _ (input : List ℕ) (bytes : T (every isByte input)) where
     module _ (removed : Removed) (gives : removed ≡ removeGives block out e f) where
       -- a refusal
       pub refusal : {n k : ℕ} → removed .removal ≡ Refused n → k ≡ removalNumber (removed .removal) → {text : Text} → text ≡ held (answerLine k)
-          → text ≡ textOf (printout input)
+          → Printed text
       refusal {n} h k t =
-          t
+          whole
+          (t
           ∙ (ap (λ i. held (answerLine i)) (k ∙ number-is block out e f removed gives)
-          ∙ (ap held (sym (printed-refusal input size (refused-answer block out e f removed gives n h))) ∙ whole))
+          ∙ ap held (sym (printed-refusal input size (refused-answer block out e f removed gives n h)))))
 
       module _ (page : PageRow) (done : removed .removal ≡ Done page) where
         answer : removeAnswer block out e f ≡ 0
@@ -85,8 +89,7 @@ module _ (input : List ℕ) (bytes : T (every isByte input)) where
           -- a report
           pub reported : {given after : Summarised} → given ≡ summaryGives block → after ≡ summaryGives output
               → {first second : Summary} → given ≡ Summarises.Summary first → after ≡ Summarises.Summary second
-              → {text : Text} → text ≡ held (doneLines first second (removed .ring) output) → text ≡ textOf (printout input)
+              → {text : Text} → text ≡ held (doneLines first second (removed .ring) output) → Printed text
           reported g a {first} {second} g' a' t =
-              t
-              ∙ (rw (ring-is, written) (ap held (done-lines block out e f answer first second (sym g' ∙ g) (sym a' ∙ (a ∙ ap summaryGives written))))
-              ∙ (ap held (sym (printed-done input size answer)) ∙ whole))
+              let lines = done-lines block out e f answer first second (sym g' ∙ g) (sym a' ∙ (a ∙ ap summaryGives written)) in
+              whole (t ∙ (rw (ring-is, written) (ap held lines) ∙ ap held (sym (printed-done input size answer))))

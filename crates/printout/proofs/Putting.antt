@@ -7,6 +7,7 @@ use native.Mathlib.Omega.{arith}
 use lib.ListN.{length, take, set, replicate, length-take, length-append, length-replicate}
 use lib.Seq.{take-all, take-append-le, sets-eq}
 use Rattle.block.specs.Layout.{filled}
+use Rattle.block.proofs.Parts.{filled-length}
 use Rattle.output.proofs.Pasted.{pasted-filled}
 use Rattle.printout.specs.declared.Text.{Text}
 use Rattle.printout.specs.Printout.{decimal, spaced, lineEnd, ended}
@@ -22,6 +23,11 @@ held-size front = length-take textBytes front
 pub held-all : (front : List ℕ) → length front ≤ textBytes → held front ≡ textOf front
 unfolding held
 held-all front h = ap textOf (take-all textBytes front h)
+
+-- the bytes of a text that has room for them all may be lent
+pub text-lends : {text : Text} (bytes : List ℕ) → text ≡ textOf bytes → length bytes ≤ textBytes → text .n ≤ length (text .bytes)
+unfolding textOf
+text-lends bytes e h = rw (e, filled-length textBytes bytes h) h
 
 held-full : (front bytes : List ℕ) → textBytes ≤ length front → held front ≡ held (front ++ bytes)
 unfolding held

@@ -1,9 +1,11 @@
 // The printout of an input.
+ghost use Prim.Native.Nat.{_≤_};
 ghost use mathlib.Core.Path.{_≡_};
+ghost use lib.ListN.{length};
 ghost use Rattle.patch.specs.Removing.{removalNumber};
 ghost use Rattle.patch.specs.Summing.{summaryNumber};
 ghost use Rattle.printout.specs.Printout.{answerLine, printout};
-ghost use Rattle.printout.specs.Texts.{textOf, held};
+ghost use Rattle.printout.specs.Texts.{textBytes, textOf, held};
 ghost use Rattle.printout.specs.Reports.{doneLines, Reportable};
 use crate::Text;
 use crate::lines::put_answer;
@@ -65,7 +67,8 @@ fn report(before: Summary, after: Summary, ring: Ring, output: &[u8]) -> Text
 
 // The printout of an input: a block, then the two ends.
 pub fn print(input: &[u8]) -> Text
-    ensures { λ r. ⌜ r ≡ textOf (printout (now (input .entry))) ⌝ }
+    ensures text { λ r. ⌜ r ≡ textOf (printout (now (input .entry))) ⌝ }
+    ensures fits { λ r. ⌜ length (printout (now (input .entry))) ≤ textBytes ⌝ }
 {
     if input.len() != INPUT_BYTES {
         return answered(1);
