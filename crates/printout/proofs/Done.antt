@@ -1,20 +1,18 @@
--- What the program reads off its calls: the number of a refusal and, of a removal that is done, both summaries, the ring, and the new rows,
--- which are the last ones of the written block.
+-- What the program reads off its calls: the number of a refusal and, of a removal that is done, both summaries, the ring,
+-- and the new rows, which are the last ones of the written block.
 use Prim.Native.Nat.{ℕ, _+_, _-_, _*_, _≤_}
-use mathlib.Core.List.{List, [], _∷_, _++_, flatMap, append-assoc}
-use mathlib.Core.Path.{_≡_, refl, sym, ap, _∙_}
+use mathlib.Core.List.{List, _++_, append-assoc}
+use mathlib.Core.Path.{_≡_, sym, ap, _∙_}
 use native.Mathlib.Omega.{arith}
-use lib.ListN.{length, take, drop}
+use lib.ListN.{length, drop}
 use lib.Seq.{take-append-seam, drop-at}
 use Rattle.measure.specs.declared.PageRow.{PageRow}
-use Rattle.mesh.specs.declared.Row.{Row}
 use Rattle.block.specs.Layout.{Patch, rowCount, fieldsOf}
 use Rattle.block.proofs.Parts.{filled-length}
 use Rattle.block.proofs.Right.{right-block}
 use Rattle.block.proofs.Written.{rows-counted}
 use Rattle.tally.specs.declared.Summary.{Summary}
 use Rattle.tally.specs.Summing.{summaryOf}
-use Rattle.ring.specs.declared.Ring.{Ring}
 use Rattle.ring.specs.Ring.{Site, siteOf, m, minRing, maxRing, ringWith}
 use Rattle.pieces.specs.Triangulation.{newRows, tableAfter}
 use Rattle.pieces.specs.Best.{chosen}
@@ -31,7 +29,7 @@ use Rattle.patch.proofs.First.{demand-1}
 use Rattle.patch.proofs.Second.{demand-2}
 use Rattle.patch.proofs.Standing.{summary-opened, fields-after}
 use Rattle.patch.proofs.Third.{length-fits, some-way, site-chosen}
-use Rattle.printout.specs.Printout.{answerLine, line, ringLine, rowLine, summaryFields, report}
+use Rattle.printout.specs.Printout.{answerLine, report}
 use Rattle.printout.specs.Reports.{keptRows, doneLines, Reportable}
 
 -- ---- the answer
@@ -51,8 +49,8 @@ module _ (block out : List ℕ) (e f : ℕ) (removed : Removed) (gives : removed
       omega arith
 
 -- a block that opens is summarised
-pub never-refused : (block : List ℕ) (summary : Summary) → summaryGives block ≡ Summarises.Summary summary → (given : Summarised) → given ≡ summaryGives block
-    → (n : ℕ) → given ≡ Summarises.Refused n → ⊥
+pub never-refused : (block : List ℕ) (summary : Summary) → summaryGives block ≡ Summarises.Summary summary
+    → (given : Summarised) → given ≡ summaryGives block → (n : ℕ) → given ≡ Summarises.Refused n → ⊥
 never-refused block summary s given g n h = let w : _≡_ {A = ℕ} 0 1 = cc in omega arith
 
 -- ---- a removal that is done
@@ -103,7 +101,8 @@ module _ (block out : List ℕ) (e f : ℕ) (done : removeAnswer block out e f �
       ap (drop (keptRows (ringWith (site .ring)) output)) rows-are ∙ drop-at (site .kept) (newRows site 1 (chosen site)) _ size
 
   -- what is printed of it
-  pub done-lines : (before after : Summary) → Summarises.Summary before ≡ summaryGives block → Summarises.Summary after ≡ summaryGives output
+  pub done-lines : (before after : Summary) → Summarises.Summary before ≡ summaryGives block
+      → Summarises.Summary after ≡ summaryGives output
       → doneLines before after (ringWith (site .ring)) output ≡ answerLine 0 ++ report block output site
   unfolding report
   done-lines before after b a =

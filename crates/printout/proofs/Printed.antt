@@ -57,8 +57,8 @@ module _ (input : List ℕ) (bytes : T (every isByte input)) where
 
     module _ (removed : Removed) (gives : removed ≡ removeGives block out e f) where
       -- a refusal
-      pub refusal : {n k : ℕ} → removed .removal ≡ Refused n → k ≡ removalNumber (removed .removal) → {text : Text} → text ≡ held (answerLine k)
-          → Printed text
+      pub refusal : {n k : ℕ} → removed .removal ≡ Refused n → k ≡ removalNumber (removed .removal)
+          → {text : Text} → text ≡ held (answerLine k) → Printed text
       refusal {n} h k t =
           whole
           (t
@@ -77,8 +77,8 @@ module _ (input : List ℕ) (bytes : T (every isByte input)) where
           -- and so has the block that was written
           pub written-opens : {given : Summarised} → given ≡ summaryGives output → {n : ℕ} → given ≡ Summarises.Refused n → ⊥
           written-opens {given} g {n} h =
-              let opens = remove-accepted block out e f answer .opens in
-              never-refused (removeBytes block out e f) _ (summary-opened (removeBytes block out e f) opens) given (g ∙ ap summaryGives written) n h
+              let opened = summary-opened (removeBytes block out e f) (remove-accepted block out e f answer .opens) in
+              never-refused (removeBytes block out e f) _ opened given (g ∙ ap summaryGives written) n h
 
           ring-is : removed .ring ≡ ringWith (siteOf (fieldsOf block) e f .ring)
           ring-is = ap (λ (r : Removed). r .ring) (gives ∙ demand-2 .page block out e f answer)

@@ -1,5 +1,5 @@
--- The program's printout: a refusal or a wrong length is the line `answer N` alone, and `before` and `after` are the summaries of the block
--- that was given and of the block that was written.
+-- The program's printout: a refusal or a wrong length is the line `answer N` alone, and `before` and `after` are the
+-- summaries of the block that was given and of the block that was written.
 use Prim.Native.Nat.{ℕ, suc, _+_}
 use mathlib.Core.List.{List, _++_, flatMap, append-nil}
 use mathlib.Core.Path.{_≡_, refl}

@@ -1,10 +1,10 @@
--- Bytes put behind a text: one byte where there is room, none where there is not; bytes put after bytes are one piece, and fields put
--- after fields are one line.
+-- Bytes put behind a text: one byte where there is room, none where there is not; bytes put after bytes are one piece, and
+-- fields put after fields are one line.
 use Prim.Native.Nat.{ℕ, _+_, _-_, _≤_, _<_, min}
 use mathlib.Core.List.{List, [], _∷_, _++_, map, flatMap, append-assoc, append-nil}
 use mathlib.Core.Path.{_≡_, refl, sym, ap, ap₂, _∙_}
 use native.Mathlib.Omega.{arith}
-use lib.ListN.{length, take, set, replicate, length-take, length-append, length-replicate}
+use lib.ListN.{length, set, replicate, length-take, length-append, length-replicate}
 use lib.Seq.{take-all, take-append-le, sets-eq}
 use Rattle.block.specs.Layout.{filled}
 use Rattle.block.proofs.Parts.{filled-length}
@@ -36,7 +36,8 @@ held-full front bytes h = ap textOf (sym (take-append-le textBytes front bytes h
 -- ---- one byte
 
 -- a byte stored behind some bytes
-stored : (front : List ℕ) (byte : ℕ) → length front < textBytes → set (filled textBytes front) (length front) byte ≡ filled textBytes (front ++ byte ∷ [])
+stored : (front : List ℕ) (byte : ℕ) → length front < textBytes
+    → set (filled textBytes front) (length front) byte ≡ filled textBytes (front ++ byte ∷ [])
 stored front byte h =
     let zeros = length-replicate {A = ℕ} (textBytes - length front) 0 in
     let size = length-append front (replicate (textBytes - length front) 0) in
@@ -94,13 +95,15 @@ unfolding ended flatMap
 field-put field fields p q = rw append-assoc (then-put p q)
 
 -- the fields, and then the end of the line
-pub fields-put : (fields : List (List ℕ)) {text middle after : Text} → Behind text (flatMap spaced fields) middle → Behind middle lineEnd after
-    → Behind text (ended fields) after
+pub fields-put : (fields : List (List ℕ)) {text middle after : Text} → Behind text (flatMap spaced fields) middle
+    → Behind middle lineEnd after → Behind text (ended fields) after
 unfolding ended
 fields-put fields p q = then-put p q
 
 -- one number more among the fields
-pub fields-more : (ns : List ℕ) (n : ℕ) → flatMap spaced (map decimal (ns ++ n ∷ [])) ≡ flatMap spaced (map decimal ns) ++ spaced (decimal n)
+pub fields-more : (ns : List ℕ) (n : ℕ)
+    → flatMap spaced (map decimal (ns ++ n ∷ [])) ≡ flatMap spaced (map decimal ns) ++ spaced (decimal n)
 unfolding flatMap
 fields-more [] n = append-nil (spaced (decimal n))
-fields-more (k ∷ ns) n = rw (fields-more ns n) (sym (append-assoc (spaced (decimal k)) (flatMap spaced (map decimal ns)) (spaced (decimal n))))
+fields-more (k ∷ ns) n =
+    rw (fields-more ns n) (sym (append-assoc (spaced (decimal k)) (flatMap spaced (map decimal ns)) (spaced (decimal n))))

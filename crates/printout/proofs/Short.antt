@@ -1,40 +1,37 @@
--- A printout of bytes has at most 512 bytes: counts, point numbers and regions have at most three digits and a score four, a ring has at most
--- ten points, and there are at most sixteen new rows.
+-- A printout of bytes has at most 512 bytes: counts, point numbers and regions have at most three digits and a score four,
+-- a ring has at most ten points, and there are at most sixteen new rows.
 use Prim.Native.Nat.{ℕ, zero, suc, _+_, _-_, _*_, _^_, _≤_, _<_}
-use mathlib.Core.Bool.{Bool, true, false, cond, _&&_}
-use mathlib.Core.List.{List, [], _∷_, _++_, map, flatMap, List·Memᴰ, List·Memᴰ·head}
+use mathlib.Core.Bool.{Bool, true, false, cond}
+use mathlib.Core.List.{List, [], _∷_, flatMap, List·Memᴰ, List·Memᴰ·head}
 use mathlib.Core.Option.{Option, none, some}
-use mathlib.Core.Path.{_≡_, refl, sym, ap, _∙_}
+use mathlib.Core.Path.{_≡_, refl}
 use native.Mathlib.Omega.{arith}
 use borrow.Author.Tests.{eqb-true, eqb-false, ltb-true, ltb-false, lt-ltb}
 use mir.Syntax.{w8}
 use mir.Val.{Fits}
 use lib.Dec.{T, eqb, ltb, leb, lt→ltb, ltb→lt}
 use lib.ListN.{length, getD, take, drop, replicate, length-append, length-map, List·getD-eq-default}
-use Rattle.lists.specs.Lists.{every, largest, has, count, those}
+use Rattle.lists.specs.Lists.{every, largest, has, count}
 use Rattle.lists.proofs.Counts.{count-most}
 use Rattle.lists.proofs.Lists.{every-at, every-i, every-take, every-drop, those-e}
 use Rattle.lists.proofs.Numbers.{has-e, largest-within}
 use Rattle.lists.proofs.Places.{at-in, in-at}
-use Rattle.lists.proofs.Tests.{yes-is, is-yes}
+use Rattle.lists.proofs.Tests.{yes-is}
 use Rattle.measure.specs.declared.Quality.{Quality}
-use Rattle.measure.specs.declared.WorstScore.{WorstScore}
 use Rattle.measure.specs.declared.WorstScore.the-variants.{Worst, NoRows}
-use Rattle.measure.specs.declared.Octave.{Octave}
 use Rattle.measure.specs.declared.Octave.the-variants.{Exponent, NoUpright}
 use Rattle.measure.specs.Measure.{isUpright, isFlat, isInverted, worst}
 use Rattle.measure.specs.Marks.{highestScore, scoreFactor, octaveLimit, score, scoreOf, worstScore, octaveOf, octave, totalBadness}
 use Rattle.mesh.specs.declared.Row.{Row}
-use Rattle.mesh.specs.Mesh.{rowIn, rowsIn, rowQuality, noRow}
+use Rattle.mesh.specs.Mesh.{rowIn, rowQuality}
 use Rattle.mesh.proofs.Tables.{among-rows}
 use Rattle.block.specs.Layout.{blockBytes, bodyBytes, rowsAt, byte, rowCount, tableOf, fieldsOf}
 use Rattle.block.specs.Answers.{openAnswer}
 use Rattle.block.specs.Within.{isByte}
 use Rattle.block.proofs.Right.{right-block}
 use Rattle.block.proofs.Written.{points-counted, rows-counted}
-use Rattle.tally.specs.declared.Summary.{Summary}
 use Rattle.tally.specs.Summing.{qualities, summaryOf}
-use Rattle.ring.specs.Ring.{Site, siteOf, m, holdsEdge}
+use Rattle.ring.specs.Ring.{Site, siteOf, holdsEdge}
 use Rattle.pieces.specs.Triangulation.{Triangle, v, regionOf, triangles, twoRows, newRows}
 use Rattle.pieces.specs.Best.{chosen}
 use Rattle.patch.specs.Removing.{removeAnswer, removeBytes, Sound}
@@ -44,11 +41,12 @@ use Rattle.patch.proofs.Answering.{removes}
 use Rattle.patch.proofs.First.{demand-1}
 use Rattle.patch.proofs.Sites.{site-ends, ring-point}
 use Rattle.patch.proofs.Third.{length-fits}
-use Rattle.printout.specs.Printout.{text, mark, scoreField, octaveField, line, answerLine, ringLine, rowLine, summaryFields, report, printout}
+use Rattle.printout.specs.Printout.{text, mark, scoreField, octaveField, answerLine, report, printout}
 use Rattle.printout.specs.Texts.{textBytes}
 use Rattle.printout.proofs.Printing.{printed-length, printed-refusal, printed-done}
 use Rattle.printout.proofs.Done.{rows-after}
-use Rattle.printout.proofs.Sizes.{three-digits, four-digits, small, smallRow, SmallSummary, answer-size, ring-size, rows-size, summary-size}
+use Rattle.printout.proofs.Sizes.{three-digits, four-digits, small, smallRow, SmallSummary}
+use Rattle.printout.proofs.Sizes.{answer-size, ring-size, rows-size, summary-size}
 
 -- ---- bytes
 
@@ -130,11 +128,15 @@ module _ (block : List ℕ) (bytes : T (every isByte block)) (e f : ℕ) (sound 
   point-small (suc i) = go (ltb i (length (site .ring))) refl
     where
       go : (b : Bool) → ltb i (length (site .ring)) ≡ b → small (getD (site .ring) i 0) ≡ true
-      go true h = yes-is (small (getD (site .ring) i 0)) (every-at small (site .ring) ring-small (at-in (site .ring) i 0 (ltb-true i (length (site .ring)) h)))
+      go true h =
+          let inside = at-in (site .ring) i 0 (ltb-true i (length (site .ring)) h) in
+          yes-is (small (getD (site .ring) i 0)) (every-at small (site .ring) ring-small inside)
       go false h = rw (List·getD-eq-default (site .ring) 0 (ltb-false i (length (site .ring)) h))
 
   end-small : (small (site .a) ≡ true) × (small (site .b) ≡ true)
-  end-small = let (low, high) = site-ends block e f sound in (lt-ltb (site .a) 1000 (omega (arith, few-points)), lt-ltb (site .b) 1000 (omega (arith, few-points)))
+  end-small =
+      let (low, high) = site-ends block e f sound in
+      (lt-ltb (site .a) 1000 (omega (arith, few-points)), lt-ltb (site .b) 1000 (omega (arith, few-points)))
 
   -- the region of a row of the block
   row-region : {row : Row} → List·Memᴰ row (fieldsOf block .rows) → row .region < 256
@@ -212,7 +214,8 @@ printout-short input bytes = go (eqb (length input) (blockBytes + 2)) refl
         let done = eqb-true (removeAnswer block out e f) 0 h in
         let first = answer-size 0 (omega arith) in
         let rest = report-short block out e f (every-take isByte blockBytes input bytes) done in
-        rw (printed-done input size done) (omega (arith, length-append (answerLine 0) (report block (removeBytes block out e f) (siteOf (fieldsOf block) e f))))
+        let all = length-append (answerLine 0) (report block (removeBytes block out e f) (siteOf (fieldsOf block) e f)) in
+        rw (printed-done input size done) (omega arith)
     answered size false h =
         rw (printed-refusal input size (eqb-false (removeAnswer block out e f) 0 h)) (omega (arith, answer-short block out e f))
 

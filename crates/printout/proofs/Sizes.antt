@@ -1,9 +1,9 @@
--- How long the lines are: a number below 1000 has at most three digits, and a line is its word, its fields with a space before each, and its
--- end.
+-- How long the lines are: a number below 1000 has at most three digits, and a line is its word, its fields with a space
+-- before each, and its end.
 use Prim.Native.Nat.{ℕ, suc, _+_, _*_, _/_, _%_, _≤_, _<_}
 use Prim.Native.String.{String}
-use mathlib.Core.Bool.{Bool, true, false, _&&_}
-use mathlib.Core.List.{List, [], _∷_, _++_, map, flatMap}
+use mathlib.Core.Bool.{Bool, true, false}
+use mathlib.Core.List.{List, [], _∷_, map, flatMap}
 use mathlib.Core.Path.{_≡_, refl}
 use native.Mathlib.Nat.{div-add-mod'}
 use native.Mathlib.Omega.{arith}
@@ -15,7 +15,8 @@ use Rattle.lists.proofs.Tests.{and-l, and-r}
 use Rattle.mesh.specs.declared.Row.{Row}
 use Rattle.mesh.specs.Mesh.{rowBytes}
 use Rattle.tally.specs.declared.Summary.{Summary}
-use Rattle.printout.specs.Printout.{text, digit, decimal, spaced, lineEnd, ended, line, scoreField, octaveField, summaryFields, ringLine, rowLine}
+use Rattle.printout.specs.Printout.{text, digit, decimal, spaced, lineEnd, ended, line}
+use Rattle.printout.specs.Printout.{scoreField, octaveField, summaryFields, ringLine, rowLine}
 use Rattle.printout.proofs.Decimal.{decimal-digit, decimal-more}
 
 -- ---- digits
@@ -108,7 +109,8 @@ pub record SmallSummary (summary : Summary) : Type 0 where
   pub octave : length (octaveField (summary .octave)) ≤ 3
 
 -- the line of a summary
-pub summary-size : (word : String) (summary : Summary) → SmallSummary summary → length (line word (summaryFields summary)) ≤ length (text word) + 22
+pub summary-size : (word : String) (summary : Summary) → SmallSummary summary
+    → length (line word (summaryFields summary)) ≤ length (text word) + 22
 unfolding summaryFields
 summary-size word summary fits =
     let upright = decimal (summary .upright) in

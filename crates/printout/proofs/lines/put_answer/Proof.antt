@@ -19,7 +19,9 @@ put-end-requires c κs = search needs
 
 returns : tie.Need-returns
 unfolding line text
-returns c = then-put (c .before .before .put-word .ensures) (field-put _ _ (c .before .put-number .ensures) (end-put (c .put-end .ensures)))
+returns c =
+    then-put (c .before .before .put-word .ensures)
+    (field-put _ _ (c .before .put-number .ensures) (end-put (c .put-end .ensures)))
 
 pub put-answer-spec : {M : Type 1} → statement M
 put-answer-spec =

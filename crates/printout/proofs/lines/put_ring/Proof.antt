@@ -1,14 +1,13 @@
 -- The invariant of `put_ring`: the first i points of the ring stand behind the word, each as a field.
-use Prim.Native.Nat.{_≤_, _<_, _-_}
-use mathlib.Core.List.{_++_, [], _∷_, map, flatMap, append-assoc}
+use Prim.Native.Nat.{_≤_, _-_}
+use mathlib.Core.List.{map, flatMap}
 use mathlib.Core.Path.{_≡_, refl}
 use native.Mathlib.Numerals.{add-one}
 use native.Mathlib.Omega.{arith}
 use borrow.Author.Needs.{needs}
-use lib.ListN.{length, getD, take}
+use lib.ListN.{getD, take}
 use lib.Seq.{take-suc}
-use Rattle.lists.proofs.Images.{flatMap-snoc}
-use Rattle.printout.specs.Printout.{text, decimal, spaced, line, ended}
+use Rattle.printout.specs.Printout.{text, decimal, spaced, line}
 use Rattle.printout.specs.Texts.{Behind}
 use Rattle.printout.proofs.Putting.{none-put, then-put, fields-put, fields-more}
 use Rattle.printout.proofs.lines.put_ring.Statement.{statement}
@@ -54,7 +53,8 @@ loop-again c =
     let v = l .before .before .before .before .before .args .ring .v in
     let i = l .loop .i in
     let more = fields-more (take i v) (getD v i 0) in
-    (omega arith, rw (add-one i, take-suc v i 0 (omega (arith, l .before .before .before .before .before .pre)), more) (then-put (l .loop .inv .1) (c .put-number .ensures)))
+    let longer = take-suc v i 0 (omega (arith, l .before .before .before .before .before .pre)) in
+    (omega arith, rw (add-one i, longer, more) (then-put (l .loop .inv .1) (c .put-number .ensures)))
 
 put-end-requires : tie.Need-put-end-requires Inv-loop μ-loop
 put-end-requires c κs = tt

@@ -1,10 +1,10 @@
 -- The invariant of `put_rows`: the lines of the rows up to row i stand behind the text.
 use Prim.Native.Nat.{_≤_, _-_}
-use mathlib.Core.List.{_++_, [], _∷_, flatMap}
-use mathlib.Core.Path.{_≡_, refl}
+use mathlib.Core.List.{[], _∷_, flatMap}
+use mathlib.Core.Path.{_≡_}
 use native.Mathlib.Numerals.{add-one}
 use native.Mathlib.Omega.{arith}
-use lib.ListN.{length, drop, drop-of-length-le}
+use lib.ListN.{drop, drop-of-length-le}
 use lib.Seq.{drop-append-le}
 use Rattle.lists.proofs.Images.{flatMap-snoc}
 use Rattle.mesh.specs.Mesh.{rowIn, rowsIn}
@@ -50,7 +50,8 @@ loop-again c =
     let all = rows-more (a .table .now) i in
     let behind = drop-append-le (a .from) rows (last ∷ []) (omega (arith, rows-length (a .table .now) i)) in
     let lines = flatMap-snoc rowLine (drop (a .from) rows) last in
-    (omega arith, omega arith, rw (add-one i, all, behind, lines, ← c .before .row-in .ensures) (then-put (l .loop .inv .2) (c .put-row .ensures)))
+    let put = then-put (l .loop .inv .2) (c .put-row .ensures) in
+    (omega arith, omega arith, rw (add-one i, all, behind, lines, ← c .before .row-in .ensures) put)
 
 returns : tie.Need-returns Inv-loop μ-loop
 returns c =

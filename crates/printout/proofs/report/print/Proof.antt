@@ -63,8 +63,9 @@ returns-2 c =
     let size = call .before .before .before .before .before in
     let known = size .before in
     let input = known .before .args .input .now in
-    refusal input (all-bytes input (known .shared-slice-known .given)) (size .if1 .left) _ (call .remove .ensures .0)
-    (c .before .before .enum-told2 .given .1) (c .before .removal-number .ensures) (c .answered2 .ensures)
+    let bytes = all-bytes input (known .shared-slice-known .given) in
+    refusal input bytes (size .if1 .left) _ (call .remove .ensures .0) (c .before .before .enum-told2 .given .1)
+    (c .before .removal-number .ensures) (c .answered2 .ensures)
 
 summary-requires : tie.Need-summary-requires
 summary-requires c κs = search needs
@@ -83,14 +84,17 @@ answered-requires-3 c κs = search needs
 
 returns-3 : tie.Need-returns-3
 returns-3 c =
-    let call = c .before .before .before .before .before .before .before .before .before in
+    let first = c .before .before .before .before in
+    let told = first .before in
+    let call = told .before .before .before .before in
     let size = call .before .before .before .before .before in
     let known = size .before in
     let input = known .before .args .input .now in
-    let told = c .before .before .before .before .before in
+    let bytes = all-bytes input (known .shared-slice-known .given) in
+    let done = told .enum-told .given .1 in
     absurd
-    (given-opens input (all-bytes input (known .shared-slice-known .given)) (size .if1 .left) _ (call .remove .ensures .0) _ (told .enum-told .given .1)
-    (c .before .before .before .before .summary .ensures) (c .before .before .enum-told3 .given .1))
+    (given-opens input bytes (size .if1 .left) _ (call .remove .ensures .0) _ done (first .summary .ensures)
+    (c .before .before .enum-told3 .given .1))
 
 slice-aggregate-summary : tie.Need-slice-aggregate-summary
 slice-aggregate-summary c = search needs
@@ -112,37 +116,50 @@ answered-requires-4 c κs = search needs
 
 returns-4 : tie.Need-returns-4
 returns-4 c =
-    let call = c .before .before .before .before .before .before .before .before .before .before .before .before .before .before in
+    let second = c .before .before .before .before in
+    let first = second .before .before .before .before .before in
+    let told = first .before in
+    let call = told .before .before .before .before in
     let size = call .before .before .before .before .before in
     let known = size .before in
     let input = known .before .args .input .now in
-    let told = c .before .before .before .before .before .before .before .before .before .before in
+    let bytes = all-bytes input (known .shared-slice-known .given) in
+    let done = told .enum-told .given .1 in
     absurd
-    (written-opens input (all-bytes input (known .shared-slice-known .given)) (size .if1 .left) _ (call .remove .ensures .0) _ (told .enum-told .given .1) _
-    (call .remove .ensures .1) (c .before .before .before .before .summary2 .ensures) (c .before .before .enum-told4 .given .1))
+    (written-opens input bytes (size .if1 .left) _ (call .remove .ensures .0) _ done _ (call .remove .ensures .1)
+    (second .summary2 .ensures) (c .before .before .enum-told4 .given .1))
 
 slice-aggregate-report : tie.Need-slice-aggregate-report
 slice-aggregate-report c = search needs
 
 report-requires : tie.Need-report-requires
 report-requires c κs =
-    let call = c .before .before .before .before .before .before .before .before .before .before .before .before .before .before in
+    let second = c .before .before .before .before in
+    let first = second .before .before .before .before .before in
+    let told = first .before in
+    let call = told .before .before .before .before in
     let size = call .before .before .before .before .before in
     let known = size .before in
     let input = known .before .args .input .now in
-    let told = c .before .before .before .before .before .before .before .before .before .before in
-    report-asks input (all-bytes input (known .shared-slice-known .given)) (size .if1 .left) _ (call .remove .ensures .0) _ (told .enum-told .given .1) _
-    (call .remove .ensures .1)
+    let bytes = all-bytes input (known .shared-slice-known .given) in
+    let done = told .enum-told .given .1 in
+    report-asks input bytes (size .if1 .left) _ (call .remove .ensures .0) _ done _ (call .remove .ensures .1)
 
 returns-5 : tie.Need-returns-5
 returns-5 c =
-    let call = c .before .before .before .before .before .before .before .before .before .before .before .before .before .before .before in
+    let second = c .before .before .before .before .before in
+    let first = second .before .before .before .before .before in
+    let told = first .before in
+    let call = told .before .before .before .before in
     let size = call .before .before .before .before .before in
     let known = size .before in
     let input = known .before .args .input .now in
-    let told = c .before .before .before .before .before .before .before .before .before .before .before in
-    reported input (all-bytes input (known .shared-slice-known .given)) (size .if1 .left) _ (call .remove .ensures .0) _ (told .enum-told .given .1) _
-    (call .remove .ensures .1) (c .before .before .before .before .before .before .before .before .before .before .summary .ensures) (c .before .before .before .before .before .summary2 .ensures) (c .before .before .before .before .before .before .before .before .given .given .1) (c .before .before .before .written .given .1) (c .report .ensures)
+    let bytes = all-bytes input (known .shared-slice-known .given) in
+    let done = told .enum-told .given .1 in
+    let before-is = c .before .before .before .before .before .before .before .before .given .given .1 in
+    let after-is = c .before .before .before .written .given .1 in
+    reported input bytes (size .if1 .left) _ (call .remove .ensures .0) _ done _ (call .remove .ensures .1) (first .summary .ensures)
+    (second .summary2 .ensures) before-is after-is (c .report .ensures)
 
 pub print-spec : {M : Type 1} → statement M
 print-spec =

@@ -108,7 +108,8 @@ put-decimal-returns-2 : (t : ℕ) → put-decimal-lts.Need-returns-2 (
 put-decimal-returns-2 t c =
     let d = c .before in
     let n = d .before .before .before .args .n in
-    rw (decimal-more n (d .before .before .if1 .left), ← d .digit2 .ensures) (then-put (d .before .put-decimal .ensures) (c .put-byte2 .ensures))
+    rw (decimal-more n (d .before .before .if1 .left), ← d .digit2 .ensures)
+    (then-put (d .before .put-decimal .ensures) (c .put-byte2 .ensures))
 
 pub +put-decimal-spec : {M : Type 1} → statement M
 +put-decimal-spec = close μ-put-decimal λ t. put-decimal-lts.spec (
