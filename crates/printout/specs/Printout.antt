@@ -60,12 +60,12 @@ line word fields = text word ++ ended fields
 unfoldable pub mark : List ℕ
 mark = text "-"
 
--- the score of the worst row
+-- worst score, or the mark
 abbrev pub scoreField : WorstScore → List ℕ
 scoreField (Worst score) = decimal (score .value)
 scoreField NoRows = mark
 
--- the octave
+-- octave, or the mark
 abbrev pub octaveField : Octave → List ℕ
 octaveField (Exponent e) = decimal e
 octaveField NoUpright = mark
