@@ -19,7 +19,7 @@ use Rattle.pieces.specs.Triangulation.{Tri, side, cut, ways, newRows}
 use Rattle.tally.specs.Summing.{qualities}
 use Rattle.patch.specs.Removing.{worstNow, removeAnswer, removeBytes}
 use Rattle.patch.specs.Flipping.{flip23Bytes}
-use Rattle.patch.specs.Printout.{text, printout}
+use Rattle.printout.specs.Printout.{text, printout}
 use Rattle.facts.specs.Open.{definitions}
 
 -- ---- the patches

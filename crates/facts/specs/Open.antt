@@ -19,7 +19,7 @@ use Rattle.tally.specs.Summing.{summaryOf}
 use Rattle.patch.specs.Removing.{blockTests, worstNow, noWay, noneBetter, patchAfter, totalDiffers, removalTests}
 use Rattle.patch.specs.Removing.{removeAnswer, removeBytes}
 use Rattle.patch.specs.Flipping.{apexOver, pairOf, threeRows, patchAfter23, flip23Tests, flip23Answer, flip23Bytes}
-use Rattle.patch.specs.Printout.{text, decimalWithin, line, summaryFields, report, printout}
+use Rattle.printout.specs.Printout.{text, decimalWithin, spaced, lineEnd, ended, line, mark, summaryFields, report, printout}
 
 -- It has no content of its own: to unfold it is to unfold what its line names.
 unfoldable pub definitions : Unit {0}
@@ -40,5 +40,5 @@ unfolding
     summaryOf
     blockTests worstNow noWay noneBetter patchAfter totalDiffers removalTests removeAnswer removeBytes
     apexOver pairOf threeRows patchAfter23 flip23Tests flip23Answer flip23Bytes
-    text decimalWithin line summaryFields report printout
+    text decimalWithin spaced lineEnd ended line mark summaryFields report printout
 definitions = tt

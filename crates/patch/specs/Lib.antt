@@ -1,7 +1,6 @@
 pub mod Summing
 pub mod Removing
 pub mod Flipping
-pub mod Printout
 pub mod Demands
 pub mod Steps
 pub mod Pairing

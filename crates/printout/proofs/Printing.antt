@@ -1,24 +1,23 @@
--- The program's printout: a refusal or a wrong length is the line `answer N` alone, and `before` and `after` are the summaries of the block
--- that was given and of the block that was written.
+-- The program's printout: a refusal or a wrong length is the line `answer N` alone, and `before` and `after` are the
+-- summaries of the block that was given and of the block that was written.
 use Prim.Native.Nat.{ℕ, suc, _+_}
-use mathlib.Core.List.{List, [], _∷_, _++_, map, flatMap, append-nil}
+use mathlib.Core.List.{List, _++_, flatMap, append-nil}
 use mathlib.Core.Path.{_≡_, refl}
 use borrow.Author.Tests.{eq-eqb, ne-eqb}
 use lib.ListN.{length, take, replicate}
-use Rattle.mesh.specs.Mesh.{rowBytes}
 use Rattle.block.specs.Layout.{blockBytes, byte, fieldsOf}
 use Rattle.ring.specs.Ring.{Site, siteOf}
 use Rattle.pieces.specs.Triangulation.{newRows}
 use Rattle.pieces.specs.Best.{chosen}
 use Rattle.tally.specs.declared.Summary.{Summary}
 use Rattle.tally.specs.Summing.{summaryOf}
 use Rattle.patch.specs.declared.Summarised.the-variants.{Summary as Summed}
 use Rattle.patch.specs.Summing.{summaryGives}
 use Rattle.patch.specs.Removing.{removeAnswer, removeBytes}
-use Rattle.patch.specs.Printout.{decimal, line, summaryFields, report, printout}
+use Rattle.printout.specs.Printout.{line, summaryFields, answerLine, ringLine, rowLine, report, printout}
 use Rattle.patch.proofs.Answering.{removes}
 use Rattle.patch.proofs.Accepting.{remove-accepted}
 use Rattle.patch.proofs.Standing.{summary-opened}
 
 module _ (input : List ℕ) where
   -- the block, the two ends and the output block of the program
@@ -35,21 +34,21 @@ module _ (input : List ℕ) where
   out = replicate blockBytes 0
 
   -- a wrong input length prints `answer 1`
-  pub printed-length : (length input ≡ blockBytes + 2 → ⊥) → printout input ≡ line "answer" (decimal 1 ∷ [])
+  pub printed-length : (length input ≡ blockBytes + 2 → ⊥) → printout input ≡ answerLine 1
   unfolding printout
-  printed-length h = rw (ne-eqb (length input) (blockBytes + 2) h) (append-nil (line "answer" (decimal 1 ∷ [])))
+  printed-length h = rw (ne-eqb (length input) (blockBytes + 2) h) (append-nil (answerLine 1))
 
   module _ (size : length input ≡ blockBytes + 2) where
     -- a refusal prints the line `answer N` alone
-    pub printed-refusal : (removeAnswer block out e f ≡ 0 → ⊥) → printout input ≡ line "answer" (decimal (removeAnswer block out e f) ∷ [])
+    pub printed-refusal : (removeAnswer block out e f ≡ 0 → ⊥) → printout input ≡ answerLine (removeAnswer block out e f)
     unfolding printout
     printed-refusal h =
         rw (eq-eqb (length input) (blockBytes + 2) size, ne-eqb (removeAnswer block out e f) 0 h)
-        (append-nil (line "answer" (decimal (removeAnswer block out e f) ∷ [])))
+        (append-nil (answerLine (removeAnswer block out e f)))
 
     -- otherwise the line `answer 0` comes first, then the report
     pub printed-done : removeAnswer block out e f ≡ 0
-        → printout input ≡ line "answer" (decimal 0 ∷ []) ++ report block (removeBytes block out e f) (siteOf (fieldsOf block) e f)
+        → printout input ≡ answerLine 0 ++ report block (removeBytes block out e f) (siteOf (fieldsOf block) e f)
     unfolding printout
     printed-done h = rw (eq-eqb (length input) (blockBytes + 2) size, h)
 
@@ -60,8 +59,8 @@ pub record Reported (block output : List ℕ) (site : Site) : Type 0 where
   pub before-is : summaryGives block ≡ Summed before
   pub after-is : summaryGives output ≡ Summed after
   pub lines : report block output site
-      ≡ line "before" (summaryFields before) ++ line "after" (summaryFields after) ++ line "ring" (map decimal (site .ring))
-      ++ flatMap (λ row. line "row" (map decimal (rowBytes row))) (newRows site 1 (chosen site))
+      ≡ line "before" (summaryFields before) ++ line "after" (summaryFields after) ++ ringLine (site .ring)
+      ++ flatMap rowLine (newRows site 1 (chosen site))
 
 -- the printed `after` is the summary of the written block
 pub reported : (block out : List ℕ) (e f : ℕ) → removeAnswer block out e f ≡ 0

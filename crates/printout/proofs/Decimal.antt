@@ -5,11 +5,12 @@ use mathlib.Core.List.{List, [], _∷_, _++_}
 use mathlib.Core.Path.{_≡_, refl, ap, _∙_}
 use native.Mathlib.Nat.{div-add-mod'}
 use native.Mathlib.Omega.{arith}
+use borrow.Author.Tests.{lt-ltb, le-ltb}
 use lib.Dec.{T, ltb, nltb→le}
-use Rattle.patch.specs.Printout.{digit, decimalWithin, decimal}
+use Rattle.printout.specs.Printout.{digit, decimalWithin, decimal}
 
 -- a tenth of a number of two digits or more is smaller
-tenth : (n : ℕ) → 10 ≤ n → n / 10 < n
+pub tenth : (n : ℕ) → 10 ≤ n → n / 10 < n
 tenth n h = omega (arith, div-add-mod' n 10)
 
 -- any two numbers of digits over n print n alike
@@ -30,6 +31,16 @@ alike (suc d) (suc e) n h k = go (ltb n 10) (nltb→le n 10) (alike d e (n / 10)
 -- n has at most n + 1 digits
 pub digits-enough : (d n : ℕ) → n < d → decimalWithin d n ≡ decimal n
 digits-enough d n h = alike d (suc n) n h (omega arith)
+
+-- a number below 10 is its digit
+pub decimal-digit : (n : ℕ) → n < 10 → decimal n ≡ digit n ∷ []
+unfolding decimalWithin
+decimal-digit n h = rw (lt-ltb n 10 h)
+
+-- any other is its tenth, and the last digit behind it
+pub decimal-more : (n : ℕ) → 10 ≤ n → decimal n ≡ decimal (n / 10) ++ (digit (n % 10) ∷ [])
+unfolding decimalWithin
+decimal-more n h = rw (le-ltb n 10 h) (ap (λ (s : List ℕ). s ++ (digit (n % 10) ∷ [])) (digits-enough n (n / 10) (tenth n h)))
 
 -- the number that some digits stand for, after those already read
 unfoldable pub readOnto : ℕ → List ℕ → ℕ

@@ -10,6 +10,7 @@ use Rattle.measure.specs.declared.WorstScore.{WorstScore}
 use Rattle.measure.specs.declared.WorstScore.the-variants.{Worst, NoRows}
 use Rattle.measure.specs.declared.Octave.{Octave}
 use Rattle.measure.specs.declared.Octave.the-variants.{Exponent, NoUpright}
+use Rattle.mesh.specs.declared.Row.{Row}
 use Rattle.mesh.specs.Mesh.{rowBytes}
 use Rattle.block.specs.Layout.{blockBytes, byte, fieldsOf}
 use Rattle.ring.specs.Ring.{Site, siteOf}
@@ -39,19 +40,35 @@ decimalWithin (suc digits) n =
 abbrev pub decimal : ℕ → List ℕ
 decimal n = decimalWithin (suc n) n
 
+-- a field stands after a space
+unfoldable pub spaced : List ℕ → List ℕ
+spaced field = text " " ++ field
+
+-- what ends a line
+unfoldable pub lineEnd : List ℕ
+lineEnd = text "\n"
+
+-- the fields of a line and its end
+unfoldable pub ended : List (List ℕ) → List ℕ
+ended fields = flatMap spaced fields ++ lineEnd
+
 -- a line: a word, then each field after a space
 unfoldable pub line : String → List (List ℕ) → List ℕ
-line word fields = text word ++ flatMap (λ field. text " " ++ field) fields ++ text "\n"
+line word fields = text word ++ ended fields
 
 -- `-` for a mark
+unfoldable pub mark : List ℕ
+mark = text "-"
+
+-- worst score, or the mark
 abbrev pub scoreField : WorstScore → List ℕ
 scoreField (Worst score) = decimal (score .value)
-scoreField NoRows = text "-"
+scoreField NoRows = mark
 
--- `-` for a mark
+-- octave, or the mark
 abbrev pub octaveField : Octave → List ℕ
 octaveField (Exponent e) = decimal e
-octaveField NoUpright = text "-"
+octaveField NoUpright = mark
 
 -- the patch's upright, flat and inverted counts, worst score and octave
 unfoldable pub summaryFields : Summary → List (List ℕ)
@@ -59,13 +76,25 @@ summaryFields summary =
     decimal (summary .upright) ∷ decimal (summary .flat) ∷ decimal (summary .inverted)
     ∷ scoreField (summary .worst) ∷ octaveField (summary .octave) ∷ []
 
+-- the line of an answer
+abbrev pub answerLine : ℕ → List ℕ
+answerLine answer = line "answer" (decimal answer ∷ [])
+
+-- `ring` the ring
+abbrev pub ringLine : List ℕ → List ℕ
+ringLine ring = line "ring" (map decimal ring)
+
+-- `row` four numbers and the region of a new row
+abbrev pub rowLine : Row → List ℕ
+rowLine row = line "row" (map decimal (rowBytes row))
+
 -- `before` and `after`, `ring` the ring, and each `row` four numbers and the region of a new row, in written order
 unfoldable pub report : List ℕ → List ℕ → Site → List ℕ
 report block output site =
     line "before" (summaryFields (summaryOf (fieldsOf block)))
     ++ line "after" (summaryFields (summaryOf (fieldsOf output)))
-    ++ line "ring" (map decimal (site .ring))
-    ++ flatMap (λ row. line "row" (map decimal (rowBytes row))) (newRows site 1 (chosen site))
+    ++ ringLine (site .ring)
+    ++ flatMap rowLine (newRows site 1 (chosen site))
 
 -- the program takes 514 bytes, a block, then the two ends; a refusal prints the line `answer N` alone, as does a wrong length
 unfoldable pub printout : List ℕ → List ℕ
@@ -76,4 +105,4 @@ printout input =
     let out : List ℕ = replicate blockBytes 0 in
     let answer = cond (eqb (length input) (blockBytes + 2)) (removeAnswer block out e f) 1 in
     let done = report block (removeBytes block out e f) (siteOf (fieldsOf block) e f) in
-    line "answer" (decimal answer ∷ []) ++ cond (eqb answer 0) done []
+    answerLine answer ++ cond (eqb answer 0) done []

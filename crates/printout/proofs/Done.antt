@@ -1,0 +1,113 @@
+-- What the program reads off its calls: the number of a refusal and, of a removal that is done, both summaries, the ring,
+-- and the new rows, which are the last ones of the written block.
+use Prim.Native.Nat.{ℕ, _+_, _-_, _*_, _≤_}
+use mathlib.Core.List.{List, _++_, append-assoc}
+use mathlib.Core.Path.{_≡_, sym, ap, _∙_}
+use native.Mathlib.Omega.{arith}
+use lib.ListN.{length, drop}
+use lib.Seq.{take-append-seam, drop-at}
+use Rattle.measure.specs.declared.PageRow.{PageRow}
+use Rattle.block.specs.Layout.{Patch, rowCount, fieldsOf}
+use Rattle.block.proofs.Parts.{filled-length}
+use Rattle.block.proofs.Right.{right-block}
+use Rattle.block.proofs.Written.{rows-counted}
+use Rattle.tally.specs.declared.Summary.{Summary}
+use Rattle.tally.specs.Summing.{summaryOf}
+use Rattle.ring.specs.Ring.{Site, siteOf, m, minRing, maxRing, ringWith}
+use Rattle.pieces.specs.Triangulation.{newRows, tableAfter}
+use Rattle.pieces.specs.Best.{chosen}
+use Rattle.pieces.proofs.Rings.{after-length}
+use Rattle.patch.specs.declared.Removal.the-variants.{Done, Refused}
+use Rattle.patch.specs.declared.Removed.{Removed}
+use Rattle.patch.specs.declared.Summarised.{Summarised}
+use Rattle.patch.specs.declared.Summarised.the-variants as Summarises
+use Rattle.patch.specs.Removing.{patchAfter, removeAnswer, removeBytes, removeGives, removalNumber}
+use Rattle.patch.specs.Summing.{summaryGives}
+use Rattle.patch.proofs.Accepting.{remove-accepted}
+use Rattle.patch.proofs.Answering.{removes}
+use Rattle.patch.proofs.First.{demand-1}
+use Rattle.patch.proofs.Second.{demand-2}
+use Rattle.patch.proofs.Standing.{summary-opened, fields-after}
+use Rattle.patch.proofs.Third.{length-fits, some-way, site-chosen}
+use Rattle.printout.specs.Printout.{answerLine, report}
+use Rattle.printout.specs.Reports.{keptRows, doneLines, Reportable}
+
+-- ---- the answer
+
+module _ (block out : List ℕ) (e f : ℕ) (removed : Removed) (gives : removed ≡ removeGives block out e f) where
+  -- its number
+  pub number-is : removalNumber (removed .removal) ≡ removeAnswer block out e f
+  number-is = ap (λ (r : Removed). removalNumber (r .removal)) gives ∙ demand-1 .remove-number block out e f
+
+  pub done-answer : (page : PageRow) → removed .removal ≡ Done page → removeAnswer block out e f ≡ 0
+  done-answer page h = sym number-is ∙ ap removalNumber h
+
+  pub refused-answer : (n : ℕ) → removed .removal ≡ Refused n → removeAnswer block out e f ≡ 0 → ⊥
+  refused-answer n h done =
+      let made = ap (λ (r : Removed). r .removal) (gives ∙ demand-2 .page block out e f done) in
+      let w : _≡_ {A = ℕ} 0 1 = cc in
+      omega arith
+
+-- a block that opens is summarised
+pub never-refused : (block : List ℕ) (summary : Summary) → summaryGives block ≡ Summarises.Summary summary
+    → (given : Summarised) → given ≡ summaryGives block → (n : ℕ) → given ≡ Summarises.Refused n → ⊥
+never-refused block summary s given g n h = let w : _≡_ {A = ℕ} 0 1 = cc in omega arith
+
+-- ---- a removal that is done
+
+module _ (block out : List ℕ) (e f : ℕ) (done : removeAnswer block out e f ≡ 0) where
+  abbrev site : Site
+  site = siteOf (fieldsOf block) e f
+
+  abbrev output : List ℕ
+  output = removeBytes block out e f
+
+  fits : (minRing ≤ m site) × (m site ≤ maxRing)
+  fits = length-fits site (removes block out e f done .length-right)
+
+  -- the rows of the written block: the kept ones, then the new ones
+  rows-are : fieldsOf output .rows ≡ site .kept ++ newRows site 1 (chosen site)
+  unfolding patchAfter tableAfter
+  rows-are = ap (λ (p : Patch). p .rows) (fields-after block out e f done)
+
+  -- two for each of the m - 2 triangles
+  pub rows-after : length (site .kept ++ newRows site 1 (chosen site)) ≡ length (site .kept) + 2 * (m site - 2)
+  unfolding tableAfter
+  rows-after =
+      let r = removes block out e f done in
+      let (t, w) = some-way block e f (r .sound) (fits .0) (r .way) in
+      after-length site (chosen site) (site-chosen block e f (r .sound) (fits .0) t w .way .spans)
+
+  count-is : rowCount output ≡ length (site .kept) + 2 * (m site - 2)
+  count-is = sym (rows-counted output) ∙ (ap length rows-are ∙ rows-after)
+
+  -- what a report asks for
+  pub reportable : Reportable (ringWith (site .ring)) output
+  reportable =
+      let right = right-block output (remove-accepted block out e f done .opens) in
+      record {
+        from-three = fits .0;
+        to-ten = fits .1;
+        points = filled-length maxRing (site .ring) (fits .1);
+        size = right .size;
+        few-rows = right .body .few-rows;
+        new-rows = omega (arith, count-is);
+      }
+
+  -- the last rows of the written block are the new ones
+  last-rows : drop (keptRows (ringWith (site .ring)) output) (fieldsOf output .rows) ≡ newRows site 1 (chosen site)
+  last-rows =
+      let size : length (site .kept) ≡ keptRows (ringWith (site .ring)) output = omega (arith, count-is) in
+      ap (drop (keptRows (ringWith (site .ring)) output)) rows-are ∙ drop-at (site .kept) (newRows site 1 (chosen site)) _ size
+
+  -- what is printed of it
+  pub done-lines : (before after : Summary) → Summarises.Summary before ≡ summaryGives block
+      → Summarises.Summary after ≡ summaryGives output
+      → doneLines before after (ringWith (site .ring)) output ≡ answerLine 0 ++ report block output site
+  unfolding report
+  done-lines before after b a =
+      let opened = summary-opened block (removes block out e f done .sound .opens) in
+      let written = summary-opened output (remove-accepted block out e f done .opens) in
+      let before-is : before ≡ summaryOf (fieldsOf block) = cc in
+      let after-is : after ≡ summaryOf (fieldsOf output) = cc in
+      rw (before-is, after-is, take-append-seam, last-rows) (simp append-assoc)

@@ -1,0 +1,3 @@
+pub mod Printout
+pub mod Texts
+pub mod Reports
