@@ -9,7 +9,7 @@ ghost use Rattle.lists.specs.Lists.{any};
 ghost use Rattle.measure.specs.Measure.{maxCoordinate};
 ghost use Rattle.block.specs.Layout.{blockBytes, bodyBytes, maxPoints, maxRows, pointCount, rowCount, fieldsOf, sumsOf, sealed};
 ghost use Rattle.block.specs.Answers.{sumWrong, zeroMissing, coordinateOver, numberWrong, faceTwice, firstRefusal, bodyTests};
-ghost use Rattle.block.specs.Answers.{answerOf, openAnswer, openFields, noFields, openGives, sealAnswer, sealBytes};
+ghost use Rattle.block.specs.Answers.{answerOf, numberOf, openAnswer, openFields, noFields, openGives, sealAnswer, sealBytes};
 use measure::POINT_SIZE;
 use mesh::ROW_SIZE;
 
@@ -52,6 +52,18 @@ pub struct Sums {
 pub enum Answer {
     Done,
     Refused(u8),
+}
+
+impl Answer {
+    // Document 01's number.
+    pub fn number(self) -> u8
+        ensures { λ r. ⌜ r ≡ numberOf self ⌝ }
+    {
+        match self {
+            Answer::Done => 0,
+            Answer::Refused(number) => number,
+        }
+    }
 }
 
 // The fields of a block: the counts, the 64 points of 3 bytes and the 60 rows of 5 bytes.

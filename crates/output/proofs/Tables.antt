@@ -16,7 +16,7 @@ use Rattle.block.proofs.Parts.{filled-length}
 use Rattle.output.specs.Output.{tableBytes, tableWith}
 
 -- bytes in front of zeros
-pasted-filled : (k : ℕ) (front bytes : List ℕ) (n : ℕ) → length front ≡ n → pasted (filled k front) n bytes ≡ filled k (front ++ bytes)
+pub pasted-filled : (k : ℕ) (front bytes : List ℕ) (n : ℕ) → length front ≡ n → pasted (filled k front) n bytes ≡ filled k (front ++ bytes)
 pasted-filled k front bytes n h =
     let left : k - length front - length bytes ≡ k - length (front ++ bytes) = omega (arith, length-append front bytes) in
     pasted-behind front (replicate (k - length front) 0) bytes n h

@@ -1,4 +1,8 @@
 // The public calls on a patch block.
+ghost use mathlib.Core.Path.{_≡_};
+ghost use Rattle.patch.specs.Summing.{summaryNumber};
+ghost use Rattle.patch.specs.Removing.{removalNumber};
+
 mod carrying;
 mod edges;
 mod flipping;
@@ -23,10 +27,34 @@ pub enum Summarised {
     Refused(u8),
 }
 
+impl Summarised {
+    // Document 01's number.
+    pub fn number(self) -> u8
+        ensures { λ r. ⌜ r ≡ summaryNumber self ⌝ }
+    {
+        match self {
+            Summarised::Summary(_) => 0,
+            Summarised::Refused(number) => number,
+        }
+    }
+}
+
 // What a removal answers: the page row, or the number of the refusal.
 pub enum Removal {
     Done(PageRow),
     Refused(u8),
+}
+
+impl Removal {
+    // Document 01's number.
+    pub fn number(self) -> u8
+        ensures { λ r. ⌜ r ≡ removalNumber self ⌝ }
+    {
+        match self {
+            Removal::Done(_) => 0,
+            Removal::Refused(number) => number,
+        }
+    }
 }
 
 // What a removal gives: its answer and, if it is done, the ring; with a refusal the ring has no points.

@@ -8,7 +8,7 @@ use lib.ListN.{length, set, replicate, length-take, length-append, length-replic
 use lib.Seq.{take-all, take-append-le, sets-eq}
 use Rattle.block.specs.Layout.{filled}
 use Rattle.block.proofs.Parts.{filled-length}
-use Rattle.output.proofs.Pasted.{pasted-filled}
+use Rattle.output.proofs.Tables.{pasted-filled}
 use Rattle.printout.specs.declared.Text.{Text}
 use Rattle.printout.specs.Printout.{decimal, spaced, lineEnd, ended}
 use Rattle.printout.specs.Texts.{textBytes, textOf, held, Behind}

@@ -23,7 +23,7 @@ use Rattle.measure.specs.declared.Octave.the-variants.{Exponent, NoUpright}
 use Rattle.measure.specs.Measure.{isUpright, isFlat, isInverted, worst}
 use Rattle.measure.specs.Marks.{highestScore, scoreFactor, octaveLimit, score, scoreOf, worstScore, octaveOf, octave, totalBadness}
 use Rattle.mesh.specs.declared.Row.{Row}
-use Rattle.mesh.specs.Mesh.{rowIn, rowQuality}
+use Rattle.mesh.specs.Mesh.{rowIn, rowQuality, holdsEdge}
 use Rattle.mesh.proofs.Tables.{among-rows}
 use Rattle.block.specs.Layout.{blockBytes, bodyBytes, rowsAt, byte, rowCount, tableOf, fieldsOf}
 use Rattle.block.specs.Answers.{openAnswer}
@@ -31,7 +31,7 @@ use Rattle.block.specs.Within.{isByte}
 use Rattle.block.proofs.Right.{right-block}
 use Rattle.block.proofs.Written.{points-counted, rows-counted}
 use Rattle.tally.specs.Summing.{qualities, summaryOf}
-use Rattle.ring.specs.Ring.{Site, siteOf, holdsEdge}
+use Rattle.ring.specs.Ring.{Site, siteOf}
 use Rattle.pieces.specs.Triangulation.{Triangle, v, regionOf, triangles, twoRows, newRows}
 use Rattle.pieces.specs.Best.{chosen}
 use Rattle.patch.specs.Removing.{removeAnswer, removeBytes, Sound}

@@ -2,8 +2,6 @@
 ghost use Prim.Native.Nat.{_≤_};
 ghost use mathlib.Core.Path.{_≡_};
 ghost use lib.ListN.{length};
-ghost use Rattle.patch.specs.Removing.{removalNumber};
-ghost use Rattle.patch.specs.Summing.{summaryNumber};
 ghost use Rattle.printout.specs.Printout.{answerLine, printout};
 ghost use Rattle.printout.specs.Texts.{textBytes, textOf, held};
 ghost use Rattle.printout.specs.Reports.{doneLines, Reportable};
@@ -30,26 +28,6 @@ fn answered(answer: u8) -> Text
     ensures { λ r. ⌜ r ≡ held (answerLine answer) ⌝ }
 {
     put_answer(no_text(), answer)
-}
-
-// The number of a removal's answer.
-fn removal_number(removal: Removal) -> u8
-    ensures { λ r. ⌜ r ≡ removalNumber removal ⌝ }
-{
-    match removal {
-        Removal::Done(_) => 0,
-        Removal::Refused(number) => number,
-    }
-}
-
-// The number of a summary's answer.
-fn summary_number(summarised: Summarised) -> u8
-    ensures { λ r. ⌜ r ≡ summaryNumber summarised ⌝ }
-{
-    match summarised {
-        Summarised::Summary(_) => 0,
-        Summarised::Refused(number) => number,
-    }
 }
 
 // The lines of a removal that is done: the new rows are the last 2(m-2) of the written block.
@@ -81,15 +59,15 @@ pub fn print(input: &[u8]) -> Text
     let removal = removed.removal;
     let ring = removed.ring;
     let Removal::Done(_) = removal else {
-        return answered(removal_number(removal));
+        return answered(removal.number());
     };
     let given = patch::summary(block);
     let Summarised::Summary(before) = given else {
-        return answered(summary_number(given));
+        return answered(given.number());
     };
     let written = patch::summary(&output);
     let Summarised::Summary(after) = written else {
-        return answered(summary_number(written));
+        return answered(written.number());
     };
     report(before, after, ring, &output)
 }

@@ -2,13 +2,10 @@
 // A slice is a pointer and a length there. Unless the number is 0 every output element stays as it came.
 ghost use mathlib.Core.Path.{_≡_};
 ghost use lib.ListN.{length};
-ghost use Rattle.measure.specs.declared.PageRow.{PageRow as Sizes};
-ghost use Rattle.tally.specs.declared.Summary.{Summary as Counts};
-ghost use Rattle.block.specs.Answers.{numberOf, openAnswer, sealAnswer, sealBytes};
-ghost use Rattle.patch.specs.Removing.{removeAnswer, removeBytes, removalNumber};
+ghost use Rattle.block.specs.Answers.{openAnswer, sealAnswer, sealBytes};
+ghost use Rattle.patch.specs.Removing.{removeAnswer, removeBytes};
 ghost use Rattle.patch.specs.Flipping.{flip32Answer, flip32Bytes, flip23Answer, flip23Bytes};
 ghost use Rattle.sumpnewt.specs.Boundary.{summaryNumbers, summaryElements, summaryAnswer, summaryOut, hasWorst, worstNumber, hasOctave, octaveNumber, pageNumbers, pageElements, pageAnswer, pageOut};
-use block::Answer;
 use block::BLOCK_BYTES;
 use measure::Octave;
 use measure::PageRow;
@@ -24,26 +21,6 @@ const PAGE_ELEMENTS: usize = 2;
 
 // An output of another length than it must have.
 const WRONG_LENGTH: u32 = 1;
-
-// An answer as document 01's number.
-fn number_of(answer: Answer) -> u32
-    ensures { λ r. ⌜ r ≡ numberOf answer ⌝ }
-{
-    match answer {
-        Answer::Done => 0,
-        Answer::Refused(number) => number as u32,
-    }
-}
-
-// The answer of a removal as document 01's number.
-fn removal_number(removal: Removal) -> u32
-    ensures { λ r. ⌜ r ≡ removalNumber removal ⌝ }
-{
-    match removal {
-        Removal::Done(_) => 0,
-        Removal::Refused(number) => number as u32,
-    }
-}
 
 // Whether there is a worst score.
 fn has_worst(worst: WorstScore) -> u64
@@ -117,7 +94,7 @@ pub extern "C" fn sumpnewt_open(block: &[u8]) -> u32
 {
     let opened = patch::open(block);
     let answer = opened.answer;
-    number_of(answer)
+    answer.number() as u32
 }
 
 // Seals the first 508 bytes of a block.
@@ -127,7 +104,7 @@ pub extern "C" fn sumpnewt_seal(fields: &[u8], out: &mut [u8]) -> u32
     ensures bytes { λ r. ⌜ now (out .exit) ≡ sealBytes (now (fields .entry)) (now (out .entry)) ⌝ }
 {
     let answer = patch::seal(fields, out);
-    number_of(answer)
+    answer.number() as u32
 }
 
 // Summarises a block: upright, flat, inverted, has_worst, worst, has_octave, octave.
@@ -157,7 +134,7 @@ pub extern "C" fn sumpnewt_remove(block: &[u8], a: usize, b: usize, out: &mut [u
 {
     let removed = patch::remove(block, a, b, out);
     let removal = removed.removal;
-    removal_number(removal)
+    removal.number() as u32
 }
 
 // The page row of the removal of the edge between the points a and b: worst before, worst after.
@@ -188,7 +165,7 @@ pub extern "C" fn sumpnewt_flip_32(block: &[u8], a: usize, b: usize, out: &mut [
     ensures bytes { λ r. ⌜ now (out .exit) ≡ flip32Bytes (now (block .entry)) (now (out .entry)) a b ⌝ }
 {
     let answer = patch::flip_32(block, a, b, out);
-    number_of(answer)
+    answer.number() as u32
 }
 
 // Flips the two rows at the face u, v, w to three.
@@ -204,5 +181,5 @@ pub extern "C" fn sumpnewt_flip_23(
     ensures bytes { λ r. ⌜ now (out .exit) ≡ flip23Bytes (now (block .entry)) (now (out .entry)) u v w ⌝ }
 {
     let answer = patch::flip_23(block, u, v, w, out);
-    number_of(answer)
+    answer.number() as u32
 }

@@ -10,15 +10,18 @@ use Rattle.sumpnewt.proofs.sumpnewt_open.Tie as tie
 open-requires : tie.Need-open-requires
 open-requires c κs = search needs
 
-number-of-requires : tie.Need-number-of-requires
-number-of-requires c κs = search needs
+number-requires : tie.Need-number-requires
+number-requires c κs = search needs
+
+cast-result : tie.Need-cast-result
+cast-result c = search needs
 
 returns : tie.Need-returns
 returns c =
     let opened = c .before in
-    c .number-of .ensures
+    c .number .ensures
     ∙ ap (λ (gives : Opened). numberOf (gives .answer)) (opened .open .ensures)
     ∙ demand-1 .open-number (opened .before .before .args .block .now)
 
 pub sumpnewt-open-spec : {M : Type 1} → statement M
-sumpnewt-open-spec = tie.close (tie.spec open-requires number-of-requires returns)
+sumpnewt-open-spec = tie.close (tie.spec open-requires number-requires cast-result returns)

@@ -7,8 +7,11 @@ use Rattle.sumpnewt.proofs.sumpnewt_remove.Tie as tie
 remove-requires : tie.Need-remove-requires
 remove-requires c κs = search needs
 
-removal-number-requires : tie.Need-removal-number-requires
-removal-number-requires c κs = search needs
+number-requires : tie.Need-number-requires
+number-requires c κs = search needs
+
+cast-result : tie.Need-cast-result
+cast-result c = search needs
 
 same-length : tie.Need-same-length
 same-length c = search needs
@@ -17,7 +20,7 @@ returns : tie.Need-returns
 returns c =
     let call = c .before .before .before in
     let args = call .before .before .before .before .args in
-    (removal-handed _ (args .block .now) (args .out .now) (args .a) (args .b) _ (c .removal-number .ensures) (call .remove .ensures .0), call .remove .ensures .1)
+    (removal-handed _ (args .block .now) (args .out .now) (args .a) (args .b) _ (c .number .ensures) (call .remove .ensures .0), call .remove .ensures .1)
 
 pub sumpnewt-remove-spec : {M : Type 1} → statement M
-sumpnewt-remove-spec = tie.close (tie.spec remove-requires removal-number-requires same-length returns)
+sumpnewt-remove-spec = tie.close (tie.spec remove-requires number-requires cast-result same-length returns)

@@ -51,8 +51,8 @@ enum-told c = search needs
 enum-told-2 : tie.Need-enum-told-2
 enum-told-2 c = search needs
 
-removal-number-requires : tie.Need-removal-number-requires
-removal-number-requires c κs = search needs
+number-requires : tie.Need-number-requires
+number-requires c κs = search needs
 
 answered-requires-2 : tie.Need-answered-requires-2
 answered-requires-2 c κs = search needs
@@ -65,7 +65,7 @@ returns-2 c =
     let input = known .before .args .input .now in
     let bytes = all-bytes input (known .shared-slice-known .given) in
     refusal input bytes (size .if1 .left) _ (call .remove .ensures .0) (c .before .before .enum-told2 .given .1)
-    (c .before .removal-number .ensures) (c .answered2 .ensures)
+    (c .before .number .ensures) (c .answered2 .ensures)
 
 summary-requires : tie.Need-summary-requires
 summary-requires c κs = search needs
@@ -76,8 +76,8 @@ enum-known-given c = search needs
 enum-told-3 : tie.Need-enum-told-3
 enum-told-3 c = search needs
 
-summary-number-requires : tie.Need-summary-number-requires
-summary-number-requires c κs = search needs
+number-requires-2 : tie.Need-number-requires-2
+number-requires-2 c κs = search needs
 
 answered-requires-3 : tie.Need-answered-requires-3
 answered-requires-3 c κs = search needs
@@ -108,8 +108,8 @@ enum-known-written c = search needs
 enum-told-4 : tie.Need-enum-told-4
 enum-told-4 c = search needs
 
-summary-number-requires-2 : tie.Need-summary-number-requires-2
-summary-number-requires-2 c κs = search needs
+number-requires-3 : tie.Need-number-requires-3
+number-requires-3 c κs = search needs
 
 answered-requires-4 : tie.Need-answered-requires-4
 answered-requires-4 c κs = search needs
@@ -179,20 +179,20 @@ print-spec =
     remove-requires
     enum-told
     enum-told-2
-    removal-number-requires
+    number-requires
     answered-requires-2
     returns-2
     summary-requires
     enum-known-given
     enum-told-3
-    summary-number-requires
+    number-requires-2
     answered-requires-3
     returns-3
     slice-aggregate-summary
     summary-requires-2
     enum-known-written
     enum-told-4
-    summary-number-requires-2
+    number-requires-3
     answered-requires-4
     returns-4
     slice-aggregate-report
