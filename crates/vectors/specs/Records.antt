@@ -1,0 +1,57 @@
+-- The parts of a record: its sizes, where each part starts, and its numbers, low byte first.
+use Prim.Native.Nat.{ℕ, _+_, _*_}
+use mathlib.Core.List.{List}
+use lib.ListN.{getD, take, drop}
+
+-- the bytes of a record
+abbrev pub recordBytes : ℕ
+recordBytes = 1152
+
+-- the most bytes of an input or an output
+abbrev pub partBytes : ℕ
+partBytes = 520
+
+-- the numbers of the edge or the face, the summary or the page row, the ring, the output after the call
+abbrev pub numbersAt : ℕ
+numbersAt = 8
+
+abbrev pub figuresAt : ℕ
+figuresAt = 32
+
+abbrev pub ringAt : ℕ
+ringAt = 88
+
+abbrev pub outputAt : ℕ
+outputAt = 632
+
+-- the answer
+abbrev pub answerIn : List ℕ → ℕ
+answerIn stored = getD stored 1 0
+
+-- m
+abbrev pub lengthIn : List ℕ → ℕ
+lengthIn stored = getD stored 7 0
+
+-- some bytes of a part
+abbrev pub partIn : List ℕ → ℕ → ℕ → List ℕ
+partIn stored at n = take n (drop at stored)
+
+-- the number in two bytes
+abbrev pub twoAt : List ℕ → ℕ → ℕ
+twoAt stored at = getD stored at 0 + 256 * getD stored (at + 1) 0
+
+-- the number in four bytes
+unfoldable pub fourAt : List ℕ → ℕ → ℕ
+fourAt stored at = twoAt stored at + 65536 * twoAt stored (at + 2)
+
+-- the number in eight bytes
+unfoldable pub numberAt : List ℕ → ℕ → ℕ
+numberAt stored at = fourAt stored at + 4294967296 * fourAt stored (at + 4)
+
+-- the numbers of the edge or the face
+abbrev pub numberIn : List ℕ → ℕ → ℕ
+numberIn stored i = numberAt stored (numbersAt + 8 * i)
+
+-- the numbers of the summary, or the bits of the page row
+abbrev pub figureIn : List ℕ → ℕ → ℕ
+figureIn stored i = numberAt stored (figuresAt + 8 * i)
