@@ -2,7 +2,7 @@
 -- put in the definitions' words on the way.
 use Prim.Native.Nat.{ℕ, zero, suc}
 use mathlib.Core.Path.{_≡_, refl, sym, ap, _∙_}
-use mathlib.Core.Bool.{Bool, true, false, not, _&&_}
+use mathlib.Core.Bool.{Bool, true, false, cond, not, _&&_}
 use borrow.Author.Tests.{eq-eqb, ne-eqb, not-true, not-false}
 use lib.Dec.{eqb}
 use Rattle.block.specs.declared.Answer.{Answer}
@@ -32,9 +32,17 @@ unlike {x} {y} {z} e h = ne-eqb x z (λ p. h (p ∙ sym e))
 pub alike : {x y z : ℕ} → y ≡ z → x ≡ y → eqb x z ≡ true
 alike {x} {y} {z} e h = eq-eqb x z (h ∙ e)
 
--- ---- the numbers that a call is given
+-- ---- one case of several, and the numbers that a call is given
 
 module _ {A : Type 0} where
+  -- the case whose test passes
+  pub chosen : {t : Bool} {x : A} (y : A) → t ≡ true → x ≡ cond t x y
+  chosen y e = rw e
+
+  -- a case whose test fails
+  pub skipped : {t : Bool} (x : A) {y : A} → t ≡ false → y ≡ cond t x y
+  skipped x e = rw e
+
   pub at-two : (f : ℕ → ℕ → A) {x y e d : ℕ} {r : A} → r ≡ f x y → x ≡ e → y ≡ d → r ≡ f e d
   at-two f {x} {y} {e} {d} h p q = h ∙ ap (λ n. f n y) p ∙ ap (f e) q
 

@@ -1,6 +1,6 @@
 -- When a call gives what its record says: the definitions of the calls at the stored inputs, against the stored outcome.
 use Prim.Native.Nat.{ℕ, _+_, _-_}
-use mathlib.Core.Bool.{Bool, not, _&&_}
+use mathlib.Core.Bool.{Bool, false, cond, not, _&&_}
 use mathlib.Core.List.{List}
 use lib.Dec.{eqb}
 use lib.ListN.{length, getD}
@@ -23,7 +23,7 @@ use Rattle.patch.specs.declared.Summarised.the-variants.{Summary as Summed, Ref
 use Rattle.patch.specs.Summing.{summaryGives}
 use Rattle.patch.specs.Removing.{removeGives, removeBytes}
 use Rattle.patch.specs.Flipping.{flip32Answer, flip32Bytes, flip23Answer, flip23Bytes}
-use Rattle.vectors.specs.Records.{answerIn, lengthIn, partIn, numberIn, figureIn, ringAt, outputAt}
+use Rattle.vectors.specs.Records.{callIn, inputIn, outputBefore, answerIn, lengthIn, partIn, numberIn, figureIn, ringAt, outputAt}
 
 -- ---- what comes with answer 0
 
@@ -110,3 +110,19 @@ flip23Agrees stored input out =
     let y = numberIn stored 1 in
     let z = numberIn stored 2 in
     eqb (flip23Answer input out x y z) (answerIn stored) && outputIs (flip23Bytes input out x y z) stored
+
+-- ---- the call of a record
+
+-- 0 open, 1 seal, 2 summary, 3 remove, 4 flip_32, 5 flip_23; a number of no call agrees with nothing
+unfoldable pub callAgrees : List ℕ → List ℕ → List ℕ → Bool
+callAgrees stored input out =
+    let call = callIn stored in
+    cond (eqb call 0) (openAgrees stored input)
+    (cond (eqb call 1) (sealAgrees stored input out)
+    (cond (eqb call 2) (summaryAgrees stored input)
+    (cond (eqb call 3) (removeAgrees stored input out)
+    (cond (eqb call 4) (flip32Agrees stored input out) (cond (eqb call 5) (flip23Agrees stored input out) false)))))
+
+-- the call gives what is stored
+abbrev pub caseAgrees : List ℕ → Bool
+caseAgrees stored = callAgrees stored (inputIn stored) (outputBefore stored)

@@ -1,7 +1,7 @@
 -- The parts of a record: its sizes, where each part starts, and its numbers, low byte first.
-use Prim.Native.Nat.{ℕ, _+_, _*_}
+use Prim.Native.Nat.{ℕ, _+_, _*_, min}
 use mathlib.Core.List.{List}
-use lib.ListN.{getD, take, drop}
+use lib.ListN.{getD, take, drop, replicate}
 
 -- the bytes of a record
 abbrev pub recordBytes : ℕ
@@ -11,7 +11,7 @@ recordBytes = 1152
 abbrev pub partBytes : ℕ
 partBytes = 520
 
--- the numbers of the edge or the face, the summary or the page row, the ring, the output after the call
+-- the numbers of the edge or the face, the summary or the page row, the ring, the input, the output after the call
 abbrev pub numbersAt : ℕ
 numbersAt = 8
 
@@ -21,8 +21,15 @@ figuresAt = 32
 abbrev pub ringAt : ℕ
 ringAt = 88
 
+abbrev pub inputAt : ℕ
+inputAt = 112
+
 abbrev pub outputAt : ℕ
 outputAt = 632
+
+-- the call
+abbrev pub callIn : List ℕ → ℕ
+callIn stored = getD stored 0 0
 
 -- the answer
 abbrev pub answerIn : List ℕ → ℕ
@@ -55,3 +62,15 @@ numberIn stored i = numberAt stored (numbersAt + 8 * i)
 -- the numbers of the summary, or the bits of the page row
 abbrev pub figureIn : List ℕ → ℕ → ℕ
 figureIn stored i = numberAt stored (figuresAt + 8 * i)
+
+-- the length of a part; one that is too large is the most that a part can have
+abbrev pub lengthAt : List ℕ → ℕ → ℕ
+lengthAt stored at = min (twoAt stored at) partBytes
+
+-- the input of the call
+abbrev pub inputIn : List ℕ → List ℕ
+inputIn stored = partIn stored inputAt (lengthAt stored 2)
+
+-- the output before the call: one byte, repeated
+abbrev pub outputBefore : List ℕ → List ℕ
+outputBefore stored = take (lengthAt stored 4) (replicate partBytes (getD stored 6 0))

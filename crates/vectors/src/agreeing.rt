@@ -1,9 +1,10 @@
 // Whether a call gives what its record says: the answer, every byte of the output, and what comes with answer 0.
 ghost use Prim.Native.Nat.{_≤_};
 ghost use mathlib.Core.Path.{_≡_};
-ghost use lib.ListN.{length};
+ghost use lib.ListN.{length, replicate};
 ghost use Rattle.vectors.specs.Records.{recordBytes, partBytes};
 ghost use Rattle.vectors.specs.Agreeing.{openAgrees, sealAgrees, summaryAgrees, removeAgrees, flip32Agrees, flip23Agrees};
+ghost use Rattle.vectors.specs.Agreeing.{callAgrees, caseAgrees};
 use crate::given::answer_is;
 use crate::given::fields_are;
 use crate::given::output_is;
@@ -97,23 +98,43 @@ fn flip_23_agrees(stored: &[u8], input: &[u8], out: &mut [u8]) -> bool
 // The call of a record; a number of no call agrees with nothing.
 fn call_agrees(stored: &[u8], input: &[u8], out: &mut [u8]) -> bool
     requires { ⌜ (length (now stored) ≡ recordBytes) × (length (now out) ≤ partBytes) ⌝ }
+    ensures { λ r. ⌜ r ≡ callAgrees (now (stored .entry)) (now (input .entry)) (now (out .entry)) ⌝ }
 {
-    match stored[CALL_AT] {
-        0 => open_agrees(stored, input),
-        1 => seal_agrees(stored, input, out),
-        2 => summary_agrees(stored, input),
-        3 => remove_agrees(stored, input, out),
-        4 => flip_32_agrees(stored, input, out),
-        5 => flip_23_agrees(stored, input, out),
-        _ => false,
+    let call = stored[CALL_AT];
+    if call == 0 {
+        return open_agrees(stored, input);
     }
+    if call == 1 {
+        return seal_agrees(stored, input, out);
+    }
+    if call == 2 {
+        return summary_agrees(stored, input);
+    }
+    if call == 3 {
+        return remove_agrees(stored, input, out);
+    }
+    if call == 4 {
+        return flip_32_agrees(stored, input, out);
+    }
+    if call == 5 {
+        return flip_23_agrees(stored, input, out);
+    }
+    false
+}
+
+// The output before the call: one byte, repeated.
+fn filled(byte: u8) -> [u8; PART_BYTES]
+    ensures { λ r. ⌜ r ≡ replicate partBytes byte ⌝ }
+{
+    [byte; PART_BYTES]
 }
 
 pub fn agrees(stored: &[u8]) -> bool
     requires { ⌜ length (now stored) ≡ recordBytes ⌝ }
+    ensures { λ r. ⌜ r ≡ caseAgrees (now (stored .entry)) ⌝ }
 {
     let input_end = INPUT_AT + length_at(stored, INPUT_LENGTH_AT);
     let n = length_at(stored, OUTPUT_LENGTH_AT);
-    let mut out = [stored[FILLER_AT]; PART_BYTES];
+    let mut out = filled(stored[FILLER_AT]);
     call_agrees(stored, &stored[INPUT_AT..input_end], &mut out[..n])
 }

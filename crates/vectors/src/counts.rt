@@ -1,4 +1,7 @@
 // How many cases there are of each call and answer, and how many agree.
+ghost use Prim.Native.Nat.{_*_, _<_};
+ghost use mathlib.Core.Path.{_≡_};
+ghost use Rattle.vectors.specs.Counting.{calls, answers, withOne, counted};
 use libc::STDOUT_FILENO;
 
 // open, seal, summary, remove, flip_32, flip_23.
@@ -22,21 +25,42 @@ pub fn no_cases() -> Counts {
     }
 }
 
-// One case more; a record of no call is none.
-pub fn with_case(counts: Counts, call: u8, answer: u8, agrees: bool) -> Counts {
+// The cells with one more in one place.
+fn with_one(cells: [u64; CELLS], at: usize) -> [u64; CELLS]
+    requires { ⌜ at < calls * answers ⌝ }
+    ensures { λ r. ⌜ r ≡ withOne cells at ⌝ }
+{
+    let mut next = cells;
+    next[at] = std::num::wrapping_add_u64(next[at], 1);
+    next
+}
+
+// One case more, and one that agrees if it does; a record of no call or no answer is none.
+pub fn with_case(counts: Counts, call: u8, answer: u8, agrees: bool) -> Counts
+    ensures { λ r. ⌜ r ≡ counted counts call answer agrees ⌝ }
+{
     let row = call as usize;
     let column = answer as usize;
-    let mut next = counts;
-    if row < CALLS {
-        if column < ANSWERS {
-            let at = row * ANSWERS + column;
-            next.cases[at] = std::num::wrapping_add_u64(next.cases[at], 1);
-            if agrees {
-                next.agreeing[at] = std::num::wrapping_add_u64(next.agreeing[at], 1);
-            }
-        }
+    if CALLS <= row {
+        return counts;
     }
-    next
+    if ANSWERS <= column {
+        return counts;
+    }
+    let at = row * ANSWERS + column;
+    let cases = counts.cases;
+    let agreeing = counts.agreeing;
+    let more = with_one(cases, at);
+    if agrees {
+        return Counts {
+            cases: more,
+            agreeing: with_one(agreeing, at),
+        };
+    }
+    Counts {
+        cases: more,
+        agreeing,
+    }
 }
 
 fn total(cells: [u64; CELLS]) -> u64 {

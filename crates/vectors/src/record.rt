@@ -5,7 +5,7 @@
 ghost use Prim.Native.Nat.{_+_, _≤_, _<_};
 ghost use mathlib.Core.Path.{_≡_};
 ghost use lib.ListN.{length};
-ghost use Rattle.vectors.specs.Records.{twoAt, fourAt, numberAt, recordBytes, partBytes, numberIn, figureIn};
+ghost use Rattle.vectors.specs.Records.{twoAt, fourAt, numberAt, recordBytes, numberIn, figureIn, lengthAt};
 
 pub const CALL_AT: usize = 0;
 
@@ -79,7 +79,7 @@ pub fn figure(stored: &[u8], i: usize) -> u64
 // The length of a part; one that is too large is the most that a part can have.
 pub fn length_at(stored: &[u8], at: usize) -> usize
     requires { ⌜ at + 2 ≤ length (now stored) ⌝ }
-    ensures { λ r. ⌜ r ≤ partBytes ⌝ }
+    ensures { λ r. ⌜ r ≡ lengthAt (now (stored .entry)) at ⌝ }
 {
     let n = two_at(stored, at) as usize;
     if n <= PART_BYTES {

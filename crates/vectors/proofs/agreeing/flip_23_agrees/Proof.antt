@@ -30,9 +30,9 @@ same-length c = search needs
 returns : tie.Need-returns
 unfolding flip23Agrees
 returns c =
-    let a = c .before .before .before .before .before .before .before .before .before .before .before .before .args in
     let k = c .before in
     let out = k .before .before .before in
+    let a = out .before .before .before .before .before .before .before .before .args in
     let number3 = out .before .before .number3 .ensures in
     let number2 = out .before .before .before .number2 .ensures in
     let number = out .before .before .before .before .number .ensures in
@@ -53,19 +53,20 @@ same-length-2 c = search needs
 returns-2 : tie.Need-returns-2
 unfolding flip23Agrees
 returns-2 c =
-    let a = c .before .before .before .before .before .before .before .before .before .before .before .before .before .before .args in
     let k = c .before .before .before in
     let out = k .before .before .before in
+    let a = out .before .before .before .before .before .before .before .before .args in
     let number3 = out .before .before .number3 .ensures in
     let number2 = out .before .before .before .number2 .ensures in
     let number = out .before .before .before .before .number .ensures in
+    let bytes = at-three (flip23Bytes (a .input .now) (a .out .now)) (out .flip-23 .ensures .1) number number2 number3 in
     same-answer
     (flip23Answer (a .input .now) (a .out .now) (numberIn (a .stored .now) 0) (numberIn (a .stored .now) 1) (numberIn (a .stored .now) 2))
     _
     (k .answer-is .ensures)
     (at-three (λ x y z. answerOf (flip23Answer (a .input .now) (a .out .now) x y z)) (out .flip-23 .ensures .0) number number2 number3)
     (c .before .before .if1 .left)
-    (c .output-is .ensures ∙ ap (λ bytes. outputIs bytes (a .stored .now)) (at-three (flip23Bytes (a .input .now) (a .out .now)) (out .flip-23 .ensures .1) number number2 number3))
+    (c .output-is .ensures ∙ ap (λ l. outputIs l (a .stored .now)) bytes)
 
 pub flip-23-agrees-spec : {M : Type 1} → statement M
 flip-23-agrees-spec =

@@ -27,9 +27,9 @@ same-length c = search needs
 returns : tie.Need-returns
 unfolding flip32Agrees
 returns c =
-    let a = c .before .before .before .before .before .before .before .before .before .before .before .args in
     let k = c .before in
     let out = k .before .before .before in
+    let a = out .before .before .before .before .before .before .before .args in
     let number2 = out .before .before .number2 .ensures in
     let number = out .before .before .before .number .ensures in
     other-answer
@@ -49,18 +49,19 @@ same-length-2 c = search needs
 returns-2 : tie.Need-returns-2
 unfolding flip32Agrees
 returns-2 c =
-    let a = c .before .before .before .before .before .before .before .before .before .before .before .before .before .args in
     let k = c .before .before .before in
     let out = k .before .before .before in
+    let a = out .before .before .before .before .before .before .before .args in
     let number2 = out .before .before .number2 .ensures in
     let number = out .before .before .before .number .ensures in
+    let bytes = at-two (flip32Bytes (a .input .now) (a .out .now)) (out .flip-32 .ensures .1) number number2 in
     same-answer
     (flip32Answer (a .input .now) (a .out .now) (numberIn (a .stored .now) 0) (numberIn (a .stored .now) 1))
     _
     (k .answer-is .ensures)
     (at-two (λ x y. answerOf (flip32Answer (a .input .now) (a .out .now) x y)) (out .flip-32 .ensures .0) number number2)
     (c .before .before .if1 .left)
-    (c .output-is .ensures ∙ ap (λ bytes. outputIs bytes (a .stored .now)) (at-two (flip32Bytes (a .input .now) (a .out .now)) (out .flip-32 .ensures .1) number number2))
+    (c .output-is .ensures ∙ ap (λ l. outputIs l (a .stored .now)) bytes)
 
 pub flip-32-agrees-spec : {M : Type 1} → statement M
 flip-32-agrees-spec =

@@ -16,8 +16,15 @@ answer-is-requires c κs = search needs
 returns : tie.Need-returns
 unfolding openAgrees openGives
 returns c =
-    let input = c .before .before .before .before .before .before .args .input .now in
-    other-answer (openAnswer input) _ (c .before .answer-is .ensures) (ap (λ o. o .answer) (c .before .before .before .open .ensures)) _ (c .if1 .taken)
+    let opened = c .before .before .before in
+    let input = opened .before .before .before .args .input .now in
+    other-answer
+    (openAnswer input)
+    _
+    (c .before .answer-is .ensures)
+    (ap (λ o. o .answer) (opened .open .ensures))
+    _
+    (c .if1 .taken)
 
 fields-are-requires : tie.Need-fields-are-requires
 fields-are-requires c κs = search needs

@@ -25,10 +25,10 @@ same-length c = search needs
 returns : tie.Need-returns
 unfolding removeAgrees
 returns c =
-    let a = c .before .before .before .before .before .before .before .before .before .before .before .before .args in
-    let s = a .stored .now in
     let r = c .before in
     let call = r .before .before .before .before in
+    let a = call .before .before .before .before .before .before .before .args in
+    let s = a .stored .now in
     let e = call .before .before .before .number .ensures in
     let f = call .before .before .number2 .ensures in
     let gives = at-two (removeGives (a .input .now) (a .out .now)) (call .remove .ensures .0) e f in
@@ -44,10 +44,10 @@ same-length-2 c = search needs
 returns-2 : tie.Need-returns-2
 unfolding removeAgrees
 returns-2 c =
-    let a = c .before .before .before .before .before .before .before .before .before .before .before .before .before .before .args in
-    let s = a .stored .now in
     let r = c .before .before .before in
     let call = r .before .before .before .before in
+    let a = call .before .before .before .before .before .before .before .args in
+    let s = a .stored .now in
     let e = call .before .before .before .number .ensures in
     let f = call .before .before .number2 .ensures in
     let gives = at-two (removeGives (a .input .now) (a .out .now)) (call .remove .ensures .0) e f in
@@ -64,10 +64,10 @@ same-length-3 c = search needs
 returns-3 : tie.Need-returns-3
 unfolding removeAgrees
 returns-3 c =
-    let a = c .before .before .before .before .before .before .before .before .before .before .before .before .before .before .before .before .args in
-    let s = a .stored .now in
     let r = c .before .before .before .before .before in
     let call = r .before .before .before .before in
+    let a = call .before .before .before .before .before .before .before .args in
+    let s = a .stored .now in
     let e = call .before .before .before .number .ensures in
     let f = call .before .before .number2 .ensures in
     let gives = at-two (removeGives (a .input .now) (a .out .now)) (call .remove .ensures .0) e f in

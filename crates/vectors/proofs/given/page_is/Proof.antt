@@ -2,8 +2,6 @@
 use mathlib.Core.Path.{ap, _∙_}
 use Rattle.vectors.specs.Agreeing.{hasBits, pageIs}
 use Rattle.vectors.proofs.Chains.{fails, passes, failed, passed}
-use mathlib.Core.Bool.{true, false}
-use Rattle.vectors.specs.Records.{figureIn}
 use borrow.Author.Needs.{needs}
 use Rattle.vectors.proofs.given.page_is.Statement.{statement}
 use Rattle.vectors.proofs.given.page_is.Tie as tie

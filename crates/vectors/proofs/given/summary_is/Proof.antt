@@ -39,7 +39,9 @@ unfolding summaryIs
 returns-3 c =
     let e2 = c .before .before .before in
     let e1 = e2 .before .before .before in
-    fails _ (unlike (c .before .figure3 .ensures) (c .if3 .taken)) ∙ passes (alike (e2 .before .figure2 .ensures) (e2 .if2 .left)) ∙ passes (alike (e1 .before .figure .ensures) (e1 .if1 .left))
+    fails _ (unlike (c .before .figure3 .ensures) (c .if3 .taken))
+    ∙ passes (alike (e2 .before .figure2 .ensures) (e2 .if2 .left))
+    ∙ passes (alike (e1 .before .figure .ensures) (e1 .if1 .left))
 
 figure-requires-4 : tie.Need-figure-requires-4
 figure-requires-4 c κs = search needs
@@ -57,7 +59,8 @@ returns-4 c =
     let e2 = e3 .before .before .before in
     let e1 = e2 .before .before .before in
     let w = c .before in
-    let is = at-two (worstIs (e1 .before .before .before .before .args .summary .worst)) (w .worst-is .ensures) (w .before .before .figure4 .ensures) (w .before .figure5 .ensures) in
+    let worst = e1 .before .before .before .before .args .summary .worst in
+    let is = at-two (worstIs worst) (w .worst-is .ensures) (w .before .before .figure4 .ensures) (w .before .figure5 .ensures) in
     fails _ (failed is (c .if4 .taken))
     ∙ passes (alike (e3 .before .figure3 .ensures) (e3 .if3 .left))
     ∙ passes (alike (e2 .before .figure2 .ensures) (e2 .if2 .left))

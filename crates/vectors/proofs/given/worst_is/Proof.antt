@@ -26,7 +26,10 @@ enum-told c = search needs
 
 returns-2 : tie.Need-returns-2
 unfolding worstIs
-returns-2 c = rw (c .before .before .before .worst .given .1) (ap (λ n. eqb n (c .before .before .before .before .before .args .score)) (c .value .ensures) ∙ passes (eq-eqb _ _ (c .before .if1 .left)))
+returns-2 c =
+    let k = c .before in
+    rw (k .before .before .worst .given .1)
+    (ap (λ n. eqb n (k .before .before .before .before .args .score)) (c .value .ensures) ∙ passes (eq-eqb _ _ (k .if1 .left)))
 
 returns-3 : tie.Need-returns-3
 unfolding worstIs

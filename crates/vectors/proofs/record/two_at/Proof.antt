@@ -24,10 +24,16 @@ mul-result : tie.Need-mul-result
 mul-result c = omega (arith, c .shared-slice-known2 .given (c .before .before .args .at + 1))
 
 add-result-2 : tie.Need-add-result-2
-add-result-2 c = omega (arith, c .shared-slice-known2 .given (c .before .before .args .at), c .shared-slice-known2 .given (c .before .before .args .at + 1))
+add-result-2 c =
+    let at = c .before .before .args .at in
+    let byte = c .shared-slice-known2 .given in
+    omega (arith, byte at, byte (at + 1))
 
 returns : tie.Need-returns
-returns c = omega (arith, c .shared-slice-known2 .given (c .before .before .args .at), c .shared-slice-known2 .given (c .before .before .args .at + 1))
+returns c =
+    let at = c .before .before .args .at in
+    let byte = c .shared-slice-known2 .given in
+    omega (arith, byte at, byte (at + 1))
 
 pub two-at-spec : {M : Type 1} → statement M
 two-at-spec =
