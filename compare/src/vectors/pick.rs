@@ -1,0 +1,151 @@
+//! Which generated cases are stored: those that show something of which too few are stored yet.
+
+use super::{given, place, CALLS, PART_BYTES};
+use crate::gen::{cases, Case};
+use crate::model::call::{PAGE_NUMBERS, SUMMARY_NUMBERS};
+use crate::model::limits::{BLOCK_BYTES, FIELD_BYTES, MAX_ROWS};
+use crate::model::{answer, open, run, Call, Outcome, Patch, Summary};
+use crate::tally::Tally;
+use std::cmp::Ordering;
+use std::collections::BTreeMap;
+
+/// The generated cases among which is picked.
+const SEED: u64 = 1;
+const COUNT: u64 = 10_000;
+
+/// How many cases show each thing.
+const WANTED: usize = 2;
+
+/// The stored cases, by call and answer.
+pub fn picked() -> Vec<Case> {
+    let mut shown: BTreeMap<String, usize> = BTreeMap::new();
+    let mut stored: Vec<Case> = vec![];
+    for case in cases(SEED, COUNT).filter_map(storable) {
+        let reasons = reasons(&case);
+        let count = |reason| shown.get(reason).copied().unwrap_or(0);
+        if reasons.iter().all(|reason| count(reason) >= WANTED) {
+            continue;
+        }
+        for reason in reasons {
+            *shown.entry(reason).or_default() += 1;
+        }
+        stored.push(case);
+    }
+    stored.sort_by_key(|case| place(&case.call));
+    stored
+}
+
+/// The case with its output filled by one byte, if it is a call of the kernel that a record can hold.
+fn storable(mut case: Case) -> Option<Case> {
+    match &mut case.call {
+        Call::Summary { out, .. } if out.len() != SUMMARY_NUMBERS => return None,
+        Call::Seal { out, .. }
+        | Call::Remove { out, .. }
+        | Call::Flip32 { out, .. }
+        | Call::Flip23 { out, .. } => {
+            let filler = out.first().copied().unwrap_or(0);
+            out.fill(filler);
+        }
+        _ => {}
+    }
+    let given = given(&case.call)?;
+    let longest = given.input.len().max(given.output.map_or(0, <[u8]>::len));
+    (longest <= PART_BYTES).then_some(case)
+}
+
+/// What a case shows, by name.
+pub fn reasons(case: &Case) -> Vec<String> {
+    let (call, number) = place(&case.call);
+    let name = CALLS[call];
+    let mut reasons = vec![format!("{name} {number}")];
+    let tally = Tally::of([case.clone()].into_iter().chain(page_of(case)));
+    for (m, counts) in tally.rings {
+        let given = (0..).zip(counts).filter(|(_, count)| *count > 0);
+        reasons.extend(given.map(|(number, _)| format!("m = {m}: {number}")));
+    }
+    let told = tally.told.into_iter().filter(|(_, told)| *told > 0);
+    reasons.extend(told.map(|(fault, _)| format!("not {fault}")));
+    let points = tally.points.into_iter().filter(|(_, seen)| *seen > 0);
+    reasons.extend(points.map(|(point, _)| String::from(point)));
+    let inputs = in_inputs(&case.call, number).into_iter();
+    reasons.extend(inputs.map(|input| format!("{name}: {input}")));
+    reasons
+}
+
+/// The page row of a removal, as a case of its own.
+fn page_of(case: &Case) -> Option<Case> {
+    let Call::Remove { block, ends, out } = &case.call else {
+        return None;
+    };
+    let call = Call::Page {
+        block: block.clone(),
+        ends: *ends,
+        row: vec![0.0; PAGE_NUMBERS],
+    };
+    let case = Case {
+        call,
+        ..case.clone()
+    };
+    (out.len() == BLOCK_BYTES).then_some(case)
+}
+
+/// What the inputs of a call show.
+fn in_inputs(call: &Call, number: u32) -> Vec<String> {
+    let given = given(call).expect("a call of the kernel");
+    let right = match call {
+        Call::Seal { .. } => FIELD_BYTES,
+        _ => BLOCK_BYTES,
+    };
+    let input = in_length("input", given.input, right);
+    let output = given
+        .output
+        .and_then(|out| in_length("output", out, BLOCK_BYTES));
+    let mut shown: Vec<String> = input.into_iter().chain(output).collect();
+    if number == answer::BAD_NUMBER && given.numbers.iter().any(|n| *n > 255) {
+        shown.push(String::from("a number over 255"));
+    }
+    if number == answer::DONE {
+        shown.extend(in_order(given.numbers));
+        shown.extend(patch_in(call).iter().flat_map(in_patch));
+    }
+    shown
+}
+
+fn in_length(what: &str, bytes: &[u8], right: usize) -> Option<String> {
+    match bytes.len().cmp(&right) {
+        Ordering::Less => Some(format!("{what} too short")),
+        Ordering::Equal => None,
+        Ordering::Greater => Some(format!("{what} too long")),
+    }
+}
+
+/// The order in which the numbers of an edge or a face are given.
+fn in_order(numbers: &[usize]) -> Option<String> {
+    let rank = |n: &usize| numbers.iter().filter(|other| *other < n).count();
+    let ranks: Vec<usize> = numbers.iter().map(rank).collect();
+    (!ranks.is_empty()).then(|| format!("given in order {ranks:?}"))
+}
+
+/// The patch that a call gets, also one that it seals.
+fn patch_in(call: &Call) -> Option<Patch> {
+    match (call, run(call)) {
+        (Call::Seal { .. }, Outcome::Bytes(_, sealed)) => open(&sealed).ok(),
+        _ => open(given(call)?.input).ok(),
+    }
+}
+
+/// What a patch shows.
+fn in_patch(patch: &Patch) -> Vec<String> {
+    let summary = Summary::of(patch);
+    let shown = [
+        ("no rows", summary.worst.is_none()),
+        ("no upright row", summary.octave.is_none()),
+        ("a flat row", summary.flat > 0),
+        ("an inverted row", summary.inverted > 0),
+        ("every row upright", summary.upright == patch.rows.len()),
+        ("60 rows", patch.rows.len() == MAX_ROWS),
+        ("59 rows", patch.rows.len() == MAX_ROWS - 1),
+    ];
+    let shown = shown.into_iter().filter(|(_, seen)| *seen);
+    shown.map(|(name, _)| String::from(name)).collect()
+}

@@ -1,0 +1,141 @@
+//! The stored cases of the program `vectors` are what the model writes, and cover what they are for.
+
+use compare::gen::Case;
+use compare::model::{run, Outcome};
+use compare::vectors::{
+    cases_file, folder, picked, place, printout, reasons, CALLS, CASES, PRINTOUT, RECORD_BYTES,
+};
+use std::collections::{BTreeMap, BTreeSet};
+use std::fs;
+use std::sync::LazyLock;
+
+static STORED: LazyLock<Vec<Case>> = LazyLock::new(picked);
+
+/// How many stored cases show each thing.
+static SHOWN: LazyLock<BTreeMap<String, usize>> = LazyLock::new(|| {
+    let mut shown = BTreeMap::new();
+    for reason in STORED.iter().flat_map(reasons) {
+        *shown.entry(reason).or_default() += 1;
+    }
+    shown
+});
+
+/// The answers each call can give; 17 is a guard that never stands in the way.
+const POSSIBLE: [&[u32]; CALLS.len()] = [
+    &[0, 1, 2, 3, 4, 5, 6, 7, 8],
+    &[0, 1, 3, 4, 5, 6, 7, 8],
+    &[0, 1, 2, 3, 4, 5, 6, 7, 8],
+    &[0, 1, 2, 3, 4, 5, 6, 7, 8, 9, 10, 11, 12, 13, 14, 15, 16],
+    &[0, 1, 2, 3, 4, 5, 6, 7, 8, 9, 10, 11, 12, 13, 15],
+    &[0, 1, 2, 3, 4, 5, 6, 7, 8, 9, 10, 11, 14, 15, 18],
+];
+
+/// Two cases or more show it.
+fn shows(reason: &str) {
+    let count = SHOWN.get(reason).copied().unwrap_or(0);
+    assert!(count >= 2, "{reason}: {count}");
+}
+
+#[test]
+fn the_stored_files_are_what_the_model_writes() {
+    let cases = fs::read(folder().join(CASES)).expect("the cases");
+    assert!(
+        cases == cases_file(&STORED),
+        "run cargo run --release --bin vectors"
+    );
+    let expected = fs::read_to_string(folder().join(PRINTOUT)).expect("the printout");
+    assert_eq!(expected, printout(&STORED));
+    assert_eq!(cases.len(), STORED.len() * RECORD_BYTES);
+    assert!(cases.len() <= 400_000, "{} bytes", cases.len());
+}
+
+#[test]
+fn every_call_gives_every_answer_it_can() {
+    let given: BTreeSet<(usize, u32)> = STORED.iter().map(|case| place(&case.call)).collect();
+    let possible = (0..).zip(POSSIBLE);
+    let possible = possible.flat_map(|(call, answers)| answers.iter().map(move |n| (call, *n)));
+    assert_eq!(given, possible.collect());
+}
+
+#[test]
+fn rings_of_every_length_get_every_outcome() {
+    for m in 3..=10 {
+        for answer in [0, 15, 16] {
+            shows(&format!("m = {m}: {answer}"));
+        }
+    }
+    for m in 5..=10 {
+        shows(&format!("m = {m}: 14"));
+    }
+    for m in [2, 11, 12] {
+        shows(&format!("m = {m}: 13"));
+    }
+}
+
+#[test]
+fn lengths_orders_and_numbers_are_wrong_and_right_in_every_way() {
+    for call in CALLS {
+        shows(&format!("{call}: input too short"));
+        shows(&format!("{call}: input too long"));
+    }
+    for call in ["seal", "remove", "flip_32", "flip_23"] {
+        shows(&format!("{call}: output too short"));
+        shows(&format!("{call}: output too long"));
+    }
+    for call in ["remove", "flip_32"] {
+        shows(&format!("{call}: given in order [0, 1]"));
+        shows(&format!("{call}: given in order [1, 0]"));
+    }
+    for order in [
+        "0, 1, 2", "0, 2, 1", "1, 0, 2", "1, 2, 0", "2, 0, 1", "2, 1, 0",
+    ] {
+        shows(&format!("flip_23: given in order [{order}]"));
+    }
+    for call in ["remove", "flip_32", "flip_23"] {
+        shows(&format!("{call}: a number over 255"));
+    }
+}
+
+#[test]
+fn tables_are_empty_full_flat_and_inverted() {
+    for call in CALLS {
+        shows(&format!("{call}: an inverted row"));
+    }
+    for call in ["open", "seal", "summary", "remove", "flip_32"] {
+        shows(&format!("{call}: a flat row"));
+        shows(&format!("{call}: 60 rows"));
+    }
+    for call in ["open", "seal", "summary"] {
+        shows(&format!("{call}: no rows"));
+        shows(&format!("{call}: no upright row"));
+        shows(&format!("{call}: every row upright"));
+    }
+    shows("flip_23: 59 rows");
+}
+
+#[test]
+fn the_page_row_has_every_sign() {
+    for time in ["before", "after"] {
+        for sign in ["negative", "zero", "positive"] {
+            shows(&format!("page row: {sign} {time}"));
+        }
+    }
+}
+
+#[test]
+fn every_wrong_kernel_is_told_apart() {
+    let told = SHOWN.keys().filter(|reason| reason.starts_with("not "));
+    assert_eq!(told.count(), compare::rivals::FAULTS.len());
+    for fault in compare::rivals::FAULTS {
+        shows(&format!("not {fault:?}"));
+    }
+}
+
+#[test]
+fn a_refusal_leaves_the_output_as_it_came() {
+    for case in STORED.iter() {
+        if let Outcome::Bytes(1.., bytes) = run(&case.call) {
+            assert!(bytes.windows(2).all(|pair| pair[0] == pair[1]));
+        }
+    }
+}
