@@ -1,8 +1,12 @@
 //! What the benchmark holds the kernel against is right itself: it agrees with the model.
 
 use compare::gen::cases;
+use compare::model::answer;
+use compare::model::limits::BLOCK_BYTES;
 use compare::model::measure::{score, Corners};
-use compare::model::{open, Call, Patch, Quality};
+use compare::model::pieces::Pieces;
+use compare::model::removal::removable_site;
+use compare::model::{open, remove, run, Call, Outcome, PageRow, Patch, Quality};
 use compare::quick;
 
 fn blocks() -> impl Iterator<Item = Vec<u8>> {
@@ -67,4 +71,69 @@ fn another_length_has_no_quality() {
     let mut parts = [7; 3];
     quick::quality(&[0; 11], &mut parts);
     assert_eq!(parts, [7; 3]);
+}
+
+/// The block and the ends of every case about an edge, with the output as it comes.
+fn edges(seed: u64, count: u64) -> impl Iterator<Item = (Vec<u8>, [usize; 2], Vec<u8>)> {
+    cases(seed, count).filter_map(|case| match case.call {
+        Call::Remove { block, ends, out } | Call::Flip32 { block, ends, out } => {
+            Some((block, ends, out))
+        }
+        Call::Page { block, ends, .. } => Some((block, ends, vec![0xA5; BLOCK_BYTES])),
+        Call::Printout { input } if input.len() > BLOCK_BYTES + 1 => {
+            let ends = [input[BLOCK_BYTES], input[BLOCK_BYTES + 1]].map(usize::from);
+            Some((input[..BLOCK_BYTES].to_vec(), ends, vec![7; BLOCK_BYTES]))
+        }
+        _ => None,
+    })
+}
+
+#[test]
+fn removals_are_the_same() {
+    let bits = |page: PageRow| [page.before.to_bits(), page.after.to_bits()];
+    let mut answers = [0; answer::ONE_APEX as usize];
+    let mut count = 0;
+    for (block, [a, b], out) in edges(22, 10_000) {
+        let [mut expected, mut written] = [out.clone(), out];
+        let by_model = remove(&block, a, b, &mut expected).map(|removal| bits(removal.page));
+        assert_eq!(
+            quick::remove(&block, a, b, &mut written).map(bits),
+            by_model
+        );
+        assert_eq!(written, expected);
+        answers[by_model.err().unwrap_or(answer::DONE) as usize] += 1;
+        count += 1;
+    }
+    assert!(count >= 5000, "{count} removals");
+    let met = |number: u32| answers[number as usize] > 0;
+    assert!(
+        (answer::DONE..answer::TOTAL_DIFFERS).all(met),
+        "{answers:?}"
+    );
+}
+
+#[test]
+fn the_table_has_the_same_apex() {
+    for (block, [a, b], _) in edges(23, 2000) {
+        let Ok(patch) = open(&block) else { continue };
+        let Ok(site) = removable_site(&patch, a, b) else {
+            continue;
+        };
+        let best = Pieces::of(&patch, &site).best(1, site.m());
+        let expected = best.map_or(0, |best| best.apex as u64);
+        assert_eq!(quick::ring_length(&block, a, b), site.m() as u64);
+        assert_eq!(quick::top_apex(&block, a, b), expected);
+    }
+}
+
+#[test]
+fn summaries_are_the_same() {
+    for case in cases(24, 5000) {
+        let Call::Summary { block, out } = &case.call else {
+            continue;
+        };
+        let mut numbers = out.clone();
+        let answer = quick::summary(block, &mut numbers);
+        assert_eq!(Outcome::Numbers(answer, numbers), run(&case.call));
+    }
 }

@@ -15,6 +15,7 @@ mod templates;
 
 use crate::model::Call;
 pub use random::Random;
+pub use rings::ring_in_table;
 
 /// A call, and the answer it was built to get where the builder knows it.
 #[derive(Clone, Debug)]

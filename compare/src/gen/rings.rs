@@ -96,6 +96,27 @@ fn bare_ring(random: &mut Random, m: usize) -> Scene {
     scene
 }
 
+/// A block of `rows` upright rows where they can be, with a ring of m round the returned ends; `blocked` leaves it no
+/// triangulation. All other rows stand apart from the ring.
+pub fn ring_in_table(
+    random: &mut Random,
+    m: usize,
+    rows: usize,
+    blocked: bool,
+) -> (Vec<u8>, [usize; 2]) {
+    let shape = random.pick(&[Shape::Wheel, Shape::Leaning]);
+    let mut scene = Scene::new(places(random, shape, m));
+    scene.upright = true;
+    let around: Vec<u8> = (FIRST..FIRST + m as u8).collect();
+    scene.link(random, &circle(&around));
+    if blocked {
+        add(&mut scene, random, m, Obstacles::Ears);
+    }
+    fill(&mut scene, random, rows, Some(m));
+    let finished = scene.finish(random, Naming::Any, 0);
+    (finished.block(), finished.ends(random))
+}
+
 /// The total D of the rows round the edge.
 fn total(places: &[[u8; 3]]) -> i64 {
     let ring = &places[2..];

@@ -2,43 +2,85 @@
 
 use crate::model::answer;
 use crate::model::limits::*;
+use crate::model::Point;
 
 const FACES: usize = 4 * MAX_ROWS;
+
+/// A row as it stands in the block.
+pub type RowBytes = [u8; ROW_BYTES];
+
+/// The four numbers of a row.
+#[inline]
+pub fn numbers([p, q, r, s, _]: &RowBytes) -> [u8; 4] {
+    [*p, *q, *r, *s]
+}
+
+/// The points and rows of a block, where they stand.
+#[derive(Clone, Copy)]
+pub struct Fields<'a> {
+    pub points: &'a [Point],
+    pub rows: &'a [RowBytes],
+}
+
+impl Fields<'_> {
+    /// The four points of a row.
+    #[inline]
+    pub fn corners(&self, [p, q, r, s, _]: &RowBytes) -> [Point; 4] {
+        let at = |number: &u8| self.points[usize::from(*number)];
+        [at(p), at(q), at(r), at(s)]
+    }
+}
 
 /// The answer of opening a block.
 #[inline(never)]
 pub fn open(block: &[u8]) -> u32 {
-    let Ok(block) = <&[u8; BLOCK_BYTES]>::try_from(block) else {
+    let Ok(block) = block.try_into() else {
         return answer::LENGTH;
     };
+    match opened(block) {
+        Ok(_) => answer::DONE,
+        Err(number) => number,
+    }
+}
+
+/// The fields, or the first of the answers 2 to 8.
+pub fn opened(block: &[u8; BLOCK_BYTES]) -> Result<Fields<'_>, u32> {
     let (fields, sums) = block.split_at(FIELD_BYTES);
     if sums != sum_bytes(fields) {
-        return answer::SUM;
+        return Err(answer::SUM);
     }
     if fields[VERSION_AT] != VERSION {
-        return answer::VERSION;
+        return Err(answer::VERSION);
     }
     let points = usize::from(fields[POINT_COUNT_AT]);
     let rows = usize::from(fields[ROW_COUNT_AT]);
     if points > MAX_POINTS || rows > MAX_ROWS {
-        return answer::COUNT;
+        return Err(answer::COUNT);
     }
     let (coordinates, idle_points) = fields[POINTS_AT..ROWS_AT].split_at(POINT_BYTES * points);
     let (table, idle_rows) = fields[ROWS_AT..].split_at(ROW_BYTES * rows);
     let zeros = [&fields[ZEROS_AT..POINTS_AT], idle_points, idle_rows];
     if zeros.into_iter().flatten().any(|byte| *byte != 0) {
-        return answer::NOT_ZERO;
+        return Err(answer::NOT_ZERO);
     }
     if coordinates.iter().any(|byte| *byte > MAX_COORDINATE) {
-        return answer::COORDINATE;
+        return Err(answer::COORDINATE);
     }
-    if !table.chunks_exact(ROW_BYTES).all(|row| fits(row, points)) {
-        return answer::ROW;
+    let (points, _) = coordinates.as_chunks();
+    let (rows, _) = table.as_chunks();
+    if !rows.iter().all(|row| fits(row, points.len())) {
+        return Err(answer::ROW);
     }
-    match a_face_stands_twice(table) {
-        true => answer::FACE_TWICE,
-        false => answer::DONE,
+    if a_face_stands_twice(rows) {
+        return Err(answer::FACE_TWICE);
     }
+    Ok(Fields { points, rows })
+}
+
+/// The sums of a block, made anew.
+pub fn seal(block: &mut [u8; BLOCK_BYTES]) {
+    let (fields, sums) = block.split_at_mut(FIELD_BYTES);
+    sums.copy_from_slice(&sum_bytes(fields));
 }
 
 fn sum_bytes(fields: &[u8]) -> [u8; 4] {
@@ -51,19 +93,19 @@ fn sum_bytes(fields: &[u8]) -> [u8; 4] {
     [a, b, c, d]
 }
 
-fn fits(row: &[u8], points: usize) -> bool {
-    let [p, q, r, s] = [row[0], row[1], row[2], row[3]];
+fn fits(row: &RowBytes, points: usize) -> bool {
+    let [p, q, r, s] = numbers(row);
     let below = [p, q, r, s]
         .into_iter()
         .all(|number| usize::from(number) < points);
     below && p != q && p != r && p != s && q != r && q != s && r != s
 }
 
-fn a_face_stands_twice(table: &[u8]) -> bool {
+fn a_face_stands_twice(rows: &[RowBytes]) -> bool {
     let mut keys = [0u32; FACES];
     let mut count = 0;
-    for row in table.chunks_exact(ROW_BYTES) {
-        let [p, q, r, s] = [row[0], row[1], row[2], row[3]];
+    for row in rows {
+        let [p, q, r, s] = numbers(row);
         for face in [[q, r, s], [p, s, r], [p, q, s], [p, r, q]] {
             keys[count] = key(face);
             count += 1;

@@ -2,12 +2,18 @@
 use Prim.Native.Nat.{ℕ}
 use mathlib.Core.Bool.{cond, _&&_}
 use mathlib.Core.List.{List, [], _∷_}
-use lib.Dec.{eqb}
+use mathlib.Core.Option.{Option·getD}
+use lib.Dec.{eqb, ltb}
 use lib.ListN.{length}
 use Rattle.measure.specs.declared.Kind.{Kind}
 use Rattle.measure.specs.declared.Kind.the-variants.{Upright, Flat, Inverted}
 use Rattle.measure.specs.declared.Quality.{Quality}
 use Rattle.measure.specs.Measure.{pointIn, quality, fromParts}
+use Rattle.block.specs.Layout.{fieldsOf}
+use Rattle.ring.specs.declared.Ring.{Ring}
+use Rattle.ring.specs.Ring.{siteOf, m, ringWith}
+use Rattle.pieces.specs.Best.{apex}
+use Rattle.patch.specs.Steps.{edgeFound}
 
 -- four points of three bytes
 abbrev pub cornerBytes : ℕ
@@ -38,3 +44,13 @@ measured corners before = cond (eqb (length corners) cornerBytes && eqb (length 
 -- the upright quality num / den
 abbrev pub upright : ℕ → ℕ → Quality
 upright num den = fromParts Upright num den
+
+-- the ring round the edge, where the ends are in order; with a refusal it has no points
+unfoldable pub ringAt : List ℕ → ℕ → ℕ → Ring
+ringAt block e f = cond (ltb e f) (edgeFound block block e f .ring) (ringWith [])
+
+-- the apex of the whole ring; 0 where there is no ring, or the mark
+unfoldable pub topApex : List ℕ → ℕ → ℕ → ℕ
+topApex block e f =
+    let site = siteOf (fieldsOf block) e f in
+    cond (eqb (ringAt block e f .m) 0) 0 (Option·getD (apex site 1 (m site)) 0)

@@ -1,13 +1,18 @@
 // What the benchmark calls: the kernel's inner functions behind C names, as thin as can be.
+ghost use mathlib.Core.List.{[]};
 ghost use mathlib.Core.Path.{_≡_};
 ghost use lib.ListN.{length};
-ghost use Rattle.block.specs.Answers.{numberOf, openAnswer};
 ghost use Rattle.exact.specs.Fractions.{isLess};
 ghost use Rattle.measure.specs.Marks.{scoreOf};
-ghost use Rattle.probes.specs.Probed.{cornerBytes, kindNumber, measured, parts, partsOf, qualityIn, upright};
+ghost use Rattle.ring.specs.Ring.{ringWith};
+ghost use Rattle.probes.specs.Probed.{cornerBytes, kindNumber, measured, parts, partsOf, qualityIn, ringAt, topApex, upright};
 use block::Answer;
+use block::BODY_BYTES;
+use block::POINTS_AT;
+use block::ROWS_AT;
 use measure::Kind;
 use measure::Quality;
+use ring::Ring;
 
 // The bytes of four points, and the numbers of a quality.
 const CORNER_BYTES: usize = 12;
@@ -22,16 +27,6 @@ fn kind_number(kind: Kind) -> u64
         Kind::Upright => 0,
         Kind::Flat => 1,
         Kind::Inverted => 2,
-    }
-}
-
-// An answer as a number.
-fn answer_number(answer: Answer) -> u64
-    ensures { λ r. ⌜ r ≡ numberOf answer ⌝ }
-{
-    match answer {
-        Answer::Done => 0,
-        Answer::Refused(number) => number as u64,
     }
 }
 
@@ -88,12 +83,63 @@ pub extern "C" fn probe_score(num: u64, den: u64) -> u64
     Quality::of_parts(Kind::Upright, num, den).score().value() as u64
 }
 
-// The answer of opening a block.
-#[no_mangle]
-pub extern "C" fn probe_open(bytes: &[u8]) -> u64
-    ensures { λ r. ⌜ r ≡ openAnswer (now (bytes .entry)) ⌝ }
+// No ring.
+fn no_ring() -> Ring
+    ensures { λ r. ⌜ r ≡ ringWith [] ⌝ }
 {
-    let opened = block::open(bytes);
-    let answer = opened.answer;
-    answer_number(answer)
+    Ring { m: 0, v: [0; 10] }
+}
+
+// The ring round the edge between the points e and f, if e < f; where there is none it has no points.
+fn ring_at(block: &[u8], e: usize, f: usize) -> Ring
+    ensures { λ r. ⌜ r ≡ ringAt (now (block .entry)) e f ⌝ }
+{
+    if f <= e {
+        return no_ring();
+    }
+    let opened = block::opening(block);
+    let Answer::Done = opened else {
+        return no_ring();
+    };
+    if block[1] as usize <= f {
+        return no_ring();
+    }
+    let found = ring::find(
+        &block[ROWS_AT..BODY_BYTES],
+        block[2] as usize,
+        e as u8,
+        f as u8,
+    );
+    found.ring
+}
+
+// The length of that ring.
+#[no_mangle]
+pub extern "C" fn probe_ring(block: &[u8], e: usize, f: usize) -> u64
+    ensures { λ r. ⌜ r ≡ ringAt (now (block .entry)) e f .m ⌝ }
+{
+    let ring = ring_at(block, e, f);
+    ring.m as u64
+}
+
+// The apex of that ring, by the table of its pieces; 0 where there is none.
+#[no_mangle]
+pub extern "C" fn probe_table(block: &[u8], e: usize, f: usize) -> u64
+    ensures { λ r. ⌜ r ≡ topApex (now (block .entry)) e f ⌝ }
+{
+    let ring = ring_at(block, e, f);
+    if ring.m == 0 {
+        return 0;
+    }
+    let pieces = pieces::fill(
+        &block[POINTS_AT..ROWS_AT],
+        block[1] as usize,
+        &block[ROWS_AT..BODY_BYTES],
+        block[2] as usize,
+        e as u8,
+        f as u8,
+        ring,
+    );
+    let at = pieces::cell_at(1, pieces.m);
+    pieces.apexes[at] as u64
 }

@@ -1,15 +1,20 @@
-//! What both sides are called with: rows, fractions and blocks of the generator's cases.
+//! What both sides are called with: rows, fractions and blocks of the generator's cases, and rings made to measure.
 
-use compare::gen::{cases, Case};
-use compare::model::limits::{MAX_POINTS, MAX_ROWS};
-use compare::model::{open, Call, Patch};
+use compare::gen::{cases, ring_in_table, Case, Random};
+use compare::model::limits::{BLOCK_BYTES, MAX_POINTS, MAX_ROWS};
+use compare::model::{answer, open, Call, Patch};
 use compare::quick;
 
 pub const SEED: u64 = 1;
 const CASES: u64 = 4000;
+/// Blocks for each line about an edge.
+const EDGES: usize = 256;
 
 /// Numerator and denominator.
 pub type Fraction = (u64, u64);
+
+/// A block and the ends of an edge in it, in order.
+pub type Edge = (Vec<u8>, [usize; 2]);
 
 pub struct Inputs {
     /// The four points of a row.
@@ -56,6 +61,21 @@ impl Inputs {
         upright.sort_by(|x, y| product(x.0, y.1).cmp(&product(y.0, x.1)));
         self.close_pairs.extend(neighbours(&upright));
     }
+}
+
+/// Blocks of `rows` rows with a ring of m whose removal has the answer; with more rows than there is room for, it would
+/// have this answer if there were room.
+pub fn edges(m: usize, rows: usize, answer: u32) -> Vec<Edge> {
+    let blocked = answer == answer::NOT_ADMISSIBLE;
+    let mut random = Random::of_case(SEED, (100 * m + rows) as u64);
+    let drawn = std::iter::repeat_with(|| ring_in_table(&mut random, m, rows, blocked));
+    let ordered = drawn.map(|(block, [a, b])| (block, [a.min(b), a.max(b)]));
+    let right = ordered.filter(|(block, [a, b])| {
+        let outcome = quick::remove(block, *a, *b, &mut [0; BLOCK_BYTES]);
+        let number = outcome.err().unwrap_or(answer::DONE);
+        number == answer || number == answer::ROOM
+    });
+    right.take(EDGES).collect()
 }
 
 fn block_of(case: Case) -> Option<Vec<u8>> {

@@ -1,0 +1,235 @@
+//! What is measured, line by line.
+
+use crate::inputs::{edges, Edge, Fraction, Inputs, SEED};
+use crate::timing::Line;
+use crate::{probes, stack};
+use compare::kernel;
+use compare::model::answer;
+use compare::model::call::SUMMARY_NUMBERS;
+use compare::model::limits::{BLOCK_BYTES, LONGEST_RING, MAX_ROWS};
+use compare::quick;
+use std::hint::black_box;
+use std::process::{Command, ExitCode};
+
+/// The most that kernel / Rust may be.
+const GOAL: f64 = 2.0;
+const TABLE_GOAL: f64 = 2.5;
+
+/// The ring lengths measured.
+const RINGS: [usize; 3] = [4, 7, 10];
+
+/// The rows of a small table.
+const FEW_ROWS: usize = 20;
+
+/// The most rows with which there is room for the new rows of a ring of m.
+fn most_rows(m: usize) -> usize {
+    MAX_ROWS + 4 - m
+}
+
+/// What a removal can come to behind its ring.
+const OUTCOMES: [(&str, u32); 3] = [
+    ("accepted", answer::DONE),
+    ("none better", answer::NONE_BETTER),
+    ("blocked", answer::NOT_ADMISSIBLE),
+];
+
+/// Numbers and bytes as one number that tells most others apart.
+fn mixed(parts: impl IntoIterator<Item = u64>) -> u64 {
+    let mix = |sum: u64, part: u64| (sum.rotate_left(5) ^ part).wrapping_mul(0x9E37_79B9_7F4A_7C15);
+    parts.into_iter().fold(0, mix)
+}
+
+fn inner_lines(inputs: &Inputs) -> Vec<Line> {
+    let mut from_kernel = [0; 3];
+    let mut from_rust = [0; 3];
+    let kernel_less = |[x, y]: &[Fraction; 2]| probes::less(x.0, x.1, y.0, y.1).into();
+    let rust_less = |[x, y]: &[Fraction; 2]| quick::less(x.0, x.1, y.0, y.1).into();
+    vec![
+        Line::of(
+            "one quality".to_string(),
+            Some(GOAL),
+            &inputs.corners,
+            |corners| {
+                probes::quality(corners, &mut from_kernel);
+                from_kernel[0] ^ from_kernel[1] ^ from_kernel[2]
+            },
+            |corners| {
+                quick::quality(corners, &mut from_rust);
+                from_rust[0] ^ from_rust[1] ^ from_rust[2]
+            },
+        ),
+        Line::of(
+            "one comparison".to_string(),
+            Some(GOAL),
+            &inputs.pairs,
+            kernel_less,
+            rust_less,
+        ),
+        Line::of(
+            "one comparison, close fractions".to_string(),
+            None,
+            &inputs.close_pairs,
+            kernel_less,
+            rust_less,
+        ),
+        Line::of(
+            "one score".to_string(),
+            Some(GOAL),
+            &inputs.fractions,
+            |(numerator, denominator)| probes::score(*numerator, *denominator),
+            |(numerator, denominator)| quick::score(*numerator, *denominator).into(),
+        ),
+    ]
+}
+
+fn block_lines(inputs: &Inputs) -> Vec<Line> {
+    let mut from_kernel = [0; SUMMARY_NUMBERS];
+    let mut from_rust = [0; SUMMARY_NUMBERS];
+    vec![
+        Line::of(
+            format!("opening a block of {FEW_ROWS} rows"),
+            Some(GOAL),
+            &edges(RINGS[0], FEW_ROWS, answer::DONE),
+            |(block, _)| kernel::open(block).into(),
+            |(block, _)| quick::open(block).into(),
+        ),
+        Line::of(
+            "opening a full block".to_string(),
+            Some(GOAL),
+            &inputs.full_blocks,
+            |block| kernel::open(block).into(),
+            |block| quick::open(block).into(),
+        ),
+        Line::of(
+            "summary of a full block".to_string(),
+            Some(GOAL),
+            &inputs.full_blocks,
+            |block| {
+                let answer = kernel::summary(block, &mut from_kernel);
+                u64::from(answer) ^ mixed(from_kernel)
+            },
+            |block| {
+                let answer = quick::summary(block, &mut from_rust);
+                u64::from(answer) ^ mixed(from_rust)
+            },
+        ),
+    ]
+}
+
+/// The table of pieces: what it takes beyond opening the block and finding the ring.
+fn table_line(m: usize) -> Line {
+    Line::beyond(
+        format!("table of pieces, m = {m}, {MAX_ROWS} rows"),
+        Some(TABLE_GOAL),
+        &edges(m, MAX_ROWS, answer::DONE),
+        [
+            |(block, ends)| probes::top_apex(block, *ends),
+            |(block, ends)| probes::ring_length(block, *ends),
+        ],
+        [
+            |(block, [a, b])| quick::top_apex(block, *a, *b),
+            |(block, [a, b])| quick::ring_length(block, *a, *b),
+        ],
+    )
+}
+
+/// A removal, and a few of the bytes it wrote; all of them are compared once, outside the rounds.
+fn removal_line(m: usize, rows: usize, (outcome, number): (&str, u32)) -> Line {
+    let edges = edges(m, rows, number);
+    let mut from_kernel = [0; BLOCK_BYTES];
+    let mut from_rust = [0; BLOCK_BYTES];
+    for (block, ends) in &edges {
+        let answer = kernel::remove(block, *ends, &mut from_kernel);
+        let same = rust_answer(block, *ends, &mut from_rust);
+        assert_eq!((answer, from_kernel), (same, from_rust));
+        assert_eq!(answer, number);
+    }
+    Line::of(
+        format!("remove, m = {m}, {rows} rows, {outcome}"),
+        Some(GOAL),
+        &edges,
+        |(block, ends): &Edge| {
+            let answer = kernel::remove(block, *ends, &mut from_kernel);
+            u64::from(answer) ^ u64::from(from_kernel[BLOCK_BYTES - 1])
+        },
+        |(block, ends): &Edge| {
+            let answer = rust_answer(block, *ends, &mut from_rust);
+            u64::from(answer) ^ u64::from(from_rust[BLOCK_BYTES - 1])
+        },
+    )
+}
+
+fn rust_answer(block: &[u8], [a, b]: [usize; 2], out: &mut [u8]) -> u32 {
+    quick::remove(block, a, b, out)
+        .err()
+        .unwrap_or(answer::DONE)
+}
+
+fn removal_lines() -> Vec<Line> {
+    let mut lines = vec![];
+    for m in RINGS {
+        for rows in [FEW_ROWS, most_rows(m)] {
+            for outcome in OUTCOMES {
+                lines.push(removal_line(m, rows, outcome));
+            }
+        }
+    }
+    lines
+}
+
+/// The deepest of the accepted removals from the longest rings.
+fn print_stack() {
+    let edges = edges(LONGEST_RING, most_rows(LONGEST_RING), answer::DONE);
+    let deepest = |remove: fn(&[u8], [usize; 2], &mut [u8]) -> u32| {
+        let edges = edges.clone();
+        let mut out = vec![0; BLOCK_BYTES];
+        stack::peak(move || {
+            for (block, ends) in &edges {
+                black_box(remove(block, *ends, &mut out));
+            }
+        })
+    };
+    let (kernel, rust) = (deepest(kernel::remove), deepest(rust_answer));
+    println!("peak stack of remove: {kernel} bytes, Rust {rust}");
+}
+
+/// The bytes of the archive, and of the code in it by `size`, where there is such a command.
+fn print_size() {
+    let archive = concat!(
+        env!("CARGO_MANIFEST_DIR"),
+        "/../target/native/libsumpnewt.a"
+    );
+    let bytes = std::fs::metadata(archive).map_or(0, |file| file.len());
+    println!("archive: {bytes} bytes");
+    if let Ok(said) = Command::new("size").arg(archive).output() {
+        print!("{}", String::from_utf8_lossy(&said.stdout));
+    }
+}
+
+/// Prints all lines, and fails if the two sides differ anywhere.
+pub fn print() -> ExitCode {
+    let inputs = Inputs::new();
+    println!("seed {SEED}, nanoseconds a call, medians");
+    Line::print_head();
+    let mut agree = true;
+    let tables: Vec<Line> = RINGS.into_iter().map(table_line).collect();
+    let lines = [
+        inner_lines(&inputs),
+        block_lines(&inputs),
+        tables,
+        removal_lines(),
+    ];
+    for line in lines.concat() {
+        line.print();
+        if !line.agrees() {
+            eprintln!("bench: kernel and Rust differ in \"{}\"", line.name);
+            agree = false;
+        }
+    }
+    print_stack();
+    print_size();
+    match agree {
+        true => ExitCode::SUCCESS,
+        false => ExitCode::FAILURE,
+    }
+}

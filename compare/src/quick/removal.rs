@@ -1,0 +1,161 @@
+//! Removal of one edge: answers 1 to 17, the page row and the block afterwards.
+
+use super::block::{numbers, opened, seal, Fields, RowBytes};
+use super::measure::{volume, Quality};
+use super::pieces::{fill, Pieces};
+use super::ring::Ring;
+use crate::model::answer;
+use crate::model::limits::*;
+use crate::model::PageRow;
+
+/// Twice the triangles of the longest ring.
+const MOST_NEW_ROWS: usize = 2 * (LONGEST_RING - 2);
+
+/// An edge with its ring in an opened block.
+struct Site<'a> {
+    fields: Fields<'a>,
+    a: u8,
+    b: u8,
+    ring: Ring,
+}
+
+impl<'a> Site<'a> {
+    /// The site of the edge between two points, or the first of the answers 2 to 13.
+    fn of(block: &'a [u8; BLOCK_BYTES], end: usize, other_end: usize) -> Result<Site<'a>, u32> {
+        let fields = opened(block)?;
+        let count = fields.points.len();
+        if end >= count || other_end >= count || end == other_end {
+            return Err(answer::BAD_NUMBER);
+        }
+        let (a, b) = (end.min(other_end) as u8, end.max(other_end) as u8);
+        let ring = Ring::find(fields.rows, a, b)?;
+        Ok(Site { fields, a, b, ring })
+    }
+}
+
+/// Rows in the order of a table.
+struct Rows<const MOST: usize> {
+    count: usize,
+    rows: [RowBytes; MOST],
+}
+
+impl<const MOST: usize> Rows<MOST> {
+    const NONE: Rows<MOST> = Rows {
+        count: 0,
+        rows: [[0; ROW_BYTES]; MOST],
+    };
+
+    fn push(&mut self, row: RowBytes) {
+        self.rows[self.count] = row;
+        self.count += 1;
+    }
+
+    fn all(&self) -> &[RowBytes] {
+        &self.rows[..self.count]
+    }
+
+    /// The two rows of the triangle of piece (i,j), then those of the piece (i,k), then of (k,j).
+    fn push_piece(&mut self, site: &Site, region: u8, pieces: &Pieces, i: usize, j: usize) {
+        let Some(best) = pieces[i][j] else { return };
+        let k = usize::from(best.apex);
+        let ring = site.ring.points();
+        let (x, y, z) = (ring[i], ring[k], ring[j]);
+        self.push([site.a, x, y, z, region]);
+        self.push([x, y, z, site.b, region]);
+        self.push_piece(site, region, pieces, i, k);
+        self.push_piece(site, region, pieces, k, j);
+    }
+
+    fn worst(&self, fields: Fields) -> Quality {
+        let mut worst = Quality::INFINITE;
+        for row in self.all() {
+            worst = worst.worse_of(Quality::of(fields.corners(row)));
+        }
+        worst
+    }
+
+    fn total_volume(&self, fields: Fields) -> i64 {
+        let volumes = self.all().iter().map(|row| volume(fields.corners(row)));
+        volumes.sum()
+    }
+}
+
+/// Removes the edge and writes the block afterwards, or refuses and leaves `out` as it came.
+#[inline(never)]
+pub fn remove(block: &[u8], end: usize, other_end: usize, out: &mut [u8]) -> Result<PageRow, u32> {
+    let (Ok(block), Ok(out)) = (block.try_into(), out.try_into()) else {
+        return Err(answer::LENGTH);
+    };
+    let site = Site::of(block, end, other_end)?;
+    let Site { fields, a, b, .. } = site;
+    let m = site.ring.points().len();
+    if fields.rows.len() - m + 2 * (m - 2) > MAX_ROWS {
+        return Err(answer::ROOM);
+    }
+    let pieces = fill(fields, a, b, site.ring.points());
+    let Some(best) = pieces[0][m - 1] else {
+        return Err(answer::NOT_ADMISSIBLE);
+    };
+    let mut kept = Rows::<MAX_ROWS>::NONE;
+    let mut removed = Rows::<LONGEST_RING>::NONE;
+    for row in fields.rows {
+        let numbers = numbers(row);
+        match numbers.contains(&a) && numbers.contains(&b) {
+            true => removed.push(*row),
+            false => kept.push(*row),
+        }
+    }
+    let worst_removed = removed.worst(fields);
+    if !worst_removed.worse(best.worst) {
+        return Err(answer::NONE_BETTER);
+    }
+    let region = removed.rows[0][ROW_BYTES - 1];
+    let mut new = Rows::<MOST_NEW_ROWS>::NONE;
+    new.push_piece(&site, region, &pieces, 0, m - 1);
+    if removed.total_volume(fields) != new.total_volume(fields) {
+        return Err(answer::TOTAL_DIFFERS);
+    }
+    write(block, kept.all(), new.all(), out);
+    let worst_kept = kept.worst(fields);
+    Ok(PageRow {
+        before: worst_kept.worse_of(worst_removed).shown(),
+        after: worst_kept.worse_of(best.worst).shown(),
+    })
+}
+
+/// The block afterwards: kept rows, new rows, zeros, sums.
+fn write(
+    block: &[u8; BLOCK_BYTES],
+    kept: &[RowBytes],
+    new: &[RowBytes],
+    out: &mut [u8; BLOCK_BYTES],
+) {
+    let new_at = ROWS_AT + ROW_BYTES * kept.len();
+    let end = new_at + ROW_BYTES * new.len();
+    out[..ROWS_AT].copy_from_slice(&block[..ROWS_AT]);
+    out[ROW_COUNT_AT] = (kept.len() + new.len()) as u8;
+    out[ROWS_AT..new_at].copy_from_slice(kept.as_flattened());
+    out[new_at..end].copy_from_slice(new.as_flattened());
+    out[end..].fill(0);
+    seal(out);
+}
+
+/// The length of the ring round an edge; 0 where there is none.
+#[inline(never)]
+pub fn ring_length(block: &[u8], end: usize, other_end: usize) -> u64 {
+    let block = block.try_into().ok();
+    let site = block.and_then(|block| Site::of(block, end, other_end).ok());
+    site.map_or(0, |site| site.ring.points().len() as u64)
+}
+
+/// The apex of that ring, counted from 1, by the table of its pieces; 0 where there is none.
+#[inline(never)]
+pub fn top_apex(block: &[u8], end: usize, other_end: usize) -> u64 {
+    let block = block.try_into().ok();
+    let Some(site) = block.and_then(|block| Site::of(block, end, other_end).ok()) else {
+        return 0;
+    };
+    let ring = site.ring.points();
+    let pieces = fill(site.fields, site.a, site.b, ring);
+    pieces[0][ring.len() - 1].map_or(0, |best| u64::from(best.apex) + 1)
+}
