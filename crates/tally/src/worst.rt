@@ -43,11 +43,14 @@ pub fn worst_row(coordinates: &[u8], count: usize, table: &[u8], n: usize) -> Qu
     requires { ⌜ Measured (now coordinates) count (now table) n ⌝ }
     ensures { λ r. ⌜ r ≡ worstOfPatch (patchIn (now (coordinates .entry)) count (now (table .entry)) n) ⌝ }
 {
-    let mut met = Met::Nothing;
-    for i in 0..n {
-        met = met.with(row_quality(coordinates, count, mesh::row_in(table, i)));
+    if n == 0 {
+        return Quality::ZERO;
     }
-    met.or_zero()
+    let mut worst = row_quality(coordinates, count, mesh::row_in(table, 0));
+    for i in 1..n {
+        worst = worst.worse_of(row_quality(coordinates, count, mesh::row_in(table, i)));
+    }
+    worst
 }
 
 // The worst quality of those of the first n rows that hold the edge a b; the zero quality where there are none.

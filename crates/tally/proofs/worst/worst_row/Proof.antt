@@ -1,40 +1,53 @@
--- The invariant of `worst_row`: what was met is the worst of the first i rows.
+-- The invariant of `worst_row`: what is kept is the worst of the first i rows, of which there is one.
 use Prim.Native.Nat.{_≤_, _-_}
 use mathlib.Core.List.{map}
-use mathlib.Core.Path.{_≡_, refl, ap, _∙_}
+use mathlib.Core.Path.{_≡_, ap, _∙_}
 use native.Mathlib.Numerals.{add-one}
 use native.Mathlib.Omega.{arith}
 use borrow.Author.Needs.{needs}
 use Rattle.lists.specs.Lists.{numbersFrom}
 use Rattle.measure.specs.Measure.{pointsIn, worst}
 use Rattle.mesh.specs.Mesh.{rowsIn, rowQuality}
-use Rattle.tally.specs.Kept.{orZero}
+use Rattle.tally.specs.declared.worst.Met.the-variants.{Worst}
+use Rattle.tally.specs.Kept.{worstWith, orZero}
 use Rattle.tally.proofs.Places.{measured-row}
 use Rattle.tally.proofs.Worsts.{met, or-zero-of, row-met}
 use Rattle.tally.proofs.worst.worst_row.Statement.{statement}
 use Rattle.tally.proofs.worst.worst_row.Tie as tie
 
 abbrev Inv-loop : tie.InvT-loop
-Inv-loop coordinates count table n m₀ i₀ m i =
-    (i ≤ n) × (m ≡ met (worst (map (rowQuality (pointsIn coordinates count)) (rowsIn table i))))
+Inv-loop coordinates count table n w₀ i₀ w i =
+    (1 ≤ i) × (i ≤ n) × (Worst w ≡ met (worst (map (rowQuality (pointsIn coordinates count)) (rowsIn table i))))
 
 abbrev μ-loop : tie.MeasureT-loop
-μ-loop coordinates count table n m₀ i₀ m i = n - i
+μ-loop coordinates count table n w₀ i₀ w i = n - i
 
-loop-holds : tie.Need-loop-holds Inv-loop μ-loop
+returns : tie.Need-returns Inv-loop μ-loop
 unfolding rowsIn numbersFrom worst
-loop-holds c = (omega arith, refl)
+returns c =
+    let none : c .before .before .before .args .n ≡ 0 = omega arith in
+    rw none
 
 row-in-requires : tie.Need-row-in-requires Inv-loop μ-loop
 row-in-requires c κs = omega arith
 
 row-quality-requires : tie.Need-row-quality-requires Inv-loop μ-loop
-row-quality-requires c κs =
-    let l = c .before .before in
-    rw (c .row-in .ensures) (measured-row (l .before .before .before .pre) (l .loop .i) (omega arith))
+row-quality-requires c κs = rw (c .row-in .ensures) (measured-row (c .before .before .before .before .pre) 0 (omega arith))
 
-with-requires : tie.Need-with-requires Inv-loop μ-loop
-with-requires c κs = search needs
+loop-holds : tie.Need-loop-holds Inv-loop μ-loop
+unfolding rowsIn numbersFrom worst
+loop-holds c = (omega arith, omega arith, rw (c .row-quality .ensures, c .before .row-in .ensures))
+
+row-in-requires-2 : tie.Need-row-in-requires-2 Inv-loop μ-loop
+row-in-requires-2 c κs = omega arith
+
+row-quality-requires-2 : tie.Need-row-quality-requires-2 Inv-loop μ-loop
+row-quality-requires-2 c κs =
+    let l = c .before .before in
+    rw (c .row-in2 .ensures) (measured-row (l .before .before .before .before .before .before .pre) (l .loop .i) (omega arith))
+
+worse-of-requires : tie.Need-worse-of-requires Inv-loop μ-loop
+worse-of-requires c κs = search needs
 
 add-i : tie.Need-add-i Inv-loop μ-loop
 add-i c = omega arith
@@ -45,23 +58,21 @@ loop-less c = omega arith
 loop-again : tie.Need-loop-again Inv-loop μ-loop
 loop-again c =
     let l = c .before .before .before .before in
-    let a = l .before .before .before .args in (
+    let a = l .before .before .before .before .before .before .args in
+    let f = rowQuality (pointsIn (a .coordinates .now) (a .count)) in (
       omega arith,
-      c .with .ensures
-          ∙ rw (l .loop .inv .1, c .before .row-quality .ensures, c .before .before .row-in .ensures, add-one)
-          (row-met (rowQuality (pointsIn (a .coordinates .now) (a .count))) (a .table .now) (l .loop .i)),
+      omega arith,
+      ap Worst (c .worse-of .ensures)
+          ∙ ap (λ kept. worstWith kept (c .before .row-quality2 .result)) (l .loop .inv .2)
+          ∙ rw (c .before .row-quality2 .ensures, c .before .before .row-in2 .ensures, add-one) (row-met f (a .table .now) (l .loop .i)),
     )
 
-or-zero-requires : tie.Need-or-zero-requires Inv-loop μ-loop
-or-zero-requires c κs = search needs
-
-returns : tie.Need-returns Inv-loop μ-loop
-returns c =
-    let l = c .before .before in
-    let a = l .before .before .before .args in
+returns-2 : tie.Need-returns-2 Inv-loop μ-loop
+returns-2 c =
+    let l = c .before in
+    let a = l .before .before .before .before .before .before .args in
     let e : l .loop .i ≡ a .n = omega arith in
-    c .or-zero .ensures
-    ∙ ap orZero (rw e at (l .loop .inv .1))
+    ap orZero (rw e at (l .loop .inv .2))
     ∙ or-zero-of (worst (map (rowQuality (pointsIn (a .coordinates .now) (a .count))) (rowsIn (a .table .now) (a .n))))
 
 pub worst-row-spec : {M : Type 1} → statement M
@@ -70,12 +81,14 @@ worst-row-spec =
     (tie.spec
     Inv-loop
     μ-loop
-    loop-holds
+    returns
     row-in-requires
     row-quality-requires
-    with-requires
+    loop-holds
+    row-in-requires-2
+    row-quality-requires-2
+    worse-of-requires
     add-i
     loop-less
     loop-again
-    or-zero-requires
-    returns)
+    returns-2)
