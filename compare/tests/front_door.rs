@@ -97,6 +97,8 @@ fn the_script_prints_the_models_printout() {
         _ => None,
     });
     let file = scratch("block.patch");
+    let sample = ["samples/block_a.patch", "0", "1"].map(OsStr::new);
+    assert!(run("./sumpnewt", &sample).status.success(), "it is built");
     for input in removals.take(60) {
         let Some((block, [a, b])) = input.split_last_chunk::<2>() else {
             continue;
