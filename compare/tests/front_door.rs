@@ -4,6 +4,7 @@ mod common;
 
 use common::*;
 use compare::gen::cases;
+use compare::model::limits::INPUT_BYTES;
 use compare::model::{printout, remove, Call, PageRow, Patch, Row, Summary};
 use std::ffi::OsStr;
 use std::fs;
@@ -90,23 +91,38 @@ fn a_text_that_is_wrong_is_told_in_one_line() {
     }
 }
 
+/// What the script prints of an input whose last two bytes are the ends.
+#[track_caller]
+fn printed_of(input: &[u8]) -> String {
+    let (file, [a, b]) = input.split_last_chunk::<2>().expect("two ends");
+    let path = scratch("block.patch");
+    fs::write(&path, file).expect("written");
+    let ends = [a.to_string(), b.to_string()];
+    printed(
+        "./sumpnewt",
+        &[path.as_os_str(), OsStr::new(&ends[0]), OsStr::new(&ends[1])],
+    )
+}
+
 #[test]
 fn the_script_prints_the_models_printout() {
-    let removals = cases(5, 600).filter_map(|case| match case.call {
+    let sample = ["samples/block_a.patch", "0", "1"].map(OsStr::new);
+    assert!(run("./sumpnewt", &sample).status.success(), "it is built");
+    let generated = cases(5, 600).filter_map(|case| match case.call {
         Call::Printout { input } => Some(input),
         _ => None,
     });
-    let file = scratch("block.patch");
-    let sample = ["samples/block_a.patch", "0", "1"].map(OsStr::new);
-    assert!(run("./sumpnewt", &sample).status.success(), "it is built");
-    for input in removals.take(60) {
-        let Some((block, [a, b])) = input.split_last_chunk::<2>() else {
-            continue;
-        };
-        fs::write(&file, block).expect("written");
-        let ends = [a.to_string(), b.to_string()];
-        let arguments = [file.as_os_str(), OsStr::new(&ends[0]), OsStr::new(&ends[1])];
-        assert_eq!(printed("./sumpnewt", &arguments), printout(&input));
+    for input in generated.filter(|input| input.len() >= 2).take(60) {
+        assert_eq!(printed_of(&input), printout(&input));
+    }
+    // Block A with its ends, cut short or with bytes behind it: no contract can say how much a program reads.
+    let whole = [&block_a().to_bytes()[..], &[0, 1]].concat();
+    assert_eq!(whole.len(), INPUT_BYTES);
+    assert!(printed_of(&whole).starts_with("answer 0\n"));
+    for length in [2, 511, 512, 513, 515, 516, 600, 5_000] {
+        let mut input = whole.clone();
+        input.resize(length, 0);
+        assert_eq!(printed_of(&input), "answer 1\n", "{length} bytes");
     }
 }
 
