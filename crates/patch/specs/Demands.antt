@@ -1,7 +1,7 @@
 -- The three demands, word for word, and what they say of the definitions of the calls; then what document 01 promises beside them of
 -- room, of orders, and of a 3-2 flip after a 2-3 flip.
 use Prim.Native.Nat.{ℕ, _+_, _-_, _≤_, _<_, min, max}
-use mathlib.Core.Bool.{Bool, not}
+use mathlib.Core.Bool.{Bool, false, cond, not}
 use mathlib.Core.List.{List, [], _∷_, _++_, map, List·Memᴰ}
 use mathlib.Core.Logic.{_↔_}
 use mathlib.Core.Path.{_≡_}
@@ -16,7 +16,7 @@ use Rattle.mesh.specs.Tetrahedra.{SameTetrahedra}
 use Rattle.block.specs.Layout.{Patch, blockBytes, maxRows, fieldsOf, bytesOf}
 use Rattle.block.specs.Within.{Kept}
 use Rattle.block.specs.Answers.{openAnswer, openGives, numberOf, sealAnswer, sealBytes}
-use Rattle.ring.specs.Ring.{Site, siteOf, m, minRing, maxRing, ringWith}
+use Rattle.ring.specs.Ring.{Site, siteOf, m, minRing, maxRing, notFlat, ringWith}
 use Rattle.pieces.specs.Triangulation.{Tri, span, newRows, rowsAfter, tableAfter}
 use Rattle.pieces.specs.Admissible.{admissible}
 use Rattle.pieces.specs.Best.{worstOfWay, chosen}
@@ -41,7 +41,7 @@ sealNumbers = 0 ∷ 1 ∷ 3 ∷ 4 ∷ 5 ∷ 6 ∷ 7 ∷ 8 ∷ []
 
 -- the numbers that a removal answers
 abbrev pub removeNumbers : List ℕ
-removeNumbers = openNumbers ++ (9 ∷ 10 ∷ 11 ∷ 12 ∷ 13 ∷ 14 ∷ 15 ∷ 16 ∷ 17 ∷ [])
+removeNumbers = openNumbers ++ (9 ∷ 10 ∷ 11 ∷ 12 ∷ 13 ∷ 19 ∷ 14 ∷ 15 ∷ 16 ∷ 17 ∷ [])
 
 -- the numbers that a 3-2 flip answers
 abbrev pub flip32Numbers : List ℕ
@@ -109,15 +109,16 @@ pub record Demand2 : Type 0 where
 -- room for the result and at least one way of triangulating the ring that keeps the mesh rule. The call answers 'none better'
 -- exactly when each such way makes a tetrahedron no better than the worst one round the edge now. Otherwise it carries out a
 -- way whose worst tetrahedron is at least as good as that of every other such way. Better means the exact fraction, not its
--- rounded picture."
+-- rounded picture." Document 02: "Demands 2 and 3 then read for such flat chains of 3 to 10 points too."
 
--- a way of triangulating the ring that keeps the mesh rule
+-- a way of triangulating the ring, or the chain, that keeps the mesh rule
 abbrev pub Way : Site → Tri → Type 0
 Way site t = (span t ≡ m site - 1) × T (admissible site t)
 
--- The premises of the third demand.
+-- The premises of the third demand: the tetrahedra round the edge form one closed ring, or one open chain that is flat.
 pub record Premises (block out : List ℕ) (e f : ℕ) : Type 0 where
   pub sound : Sound block e f
+  pub closed-or-flat : notFlat (siteOf (fieldsOf block) e f) ≡ false
   pub right-length : length out ≡ blockBytes
   pub from-three : minRing ≤ m (siteOf (fieldsOf block) e f)
   pub to-ten : m (siteOf (fieldsOf block) e f) ≤ maxRing
@@ -131,7 +132,7 @@ NoneBetter site =
     → (row : Row) × List·Memᴰ row (newRows site 1 t) × T (not (worse (worstNow site) (rowQuality (site .points) row)))
 
 -- 16 exactly then; otherwise the way written keeps the mesh rule and its worst is at least as good as that of every other such way
--- (17 is tested between the two, but the total of a ring cancels, so it never comes)
+-- (17 is tested between the two, but the total of a ring or of a flat chain cancels, so it never comes)
 pub record Demand3 (block out : List ℕ) (e f : ℕ) : Type 0 where
   pub none-better : (removeAnswer block out e f ≡ 16) ↔ NoneBetter (siteOf (fieldsOf block) e f)
   pub otherwise : (NoneBetter (siteOf (fieldsOf block) e f) → ⊥) → removeAnswer block out e f ≡ 0
@@ -141,14 +142,17 @@ pub record Demand3 (block out : List ℕ) (e f : ℕ) : Type 0 where
       × ((u : Tri) → Way site u → T (not (worse (worstOfWay site 1 t) (worstOfWay site 1 u))))
 
 -- ---- Room
--- "rows afterwards would be over 60"; "58 rows with m = 6 pass, 59 get 14; 60 rows with m = 4 pass."
+-- "rows afterwards would be over 60"; "58 rows with m = 6 pass, 59 get 14; 60 rows with m = 4 pass." Document 02, of a chain: "room is
+-- rows + m - 3."
 
--- 14 exactly when the rows and m - 4 more are over 60
+-- 14 exactly when the rows and m - 4 more are over 60, or for a chain m - 3 more
 abbrev pub Room : Type 0
 Room =
     (block out : List ℕ) (e f : ℕ) → Sound block e f → length out ≡ blockBytes
-    → let n = m (siteOf (fieldsOf block) e f) in
-    minRing ≤ n → n ≤ maxRing → (removeAnswer block out e f ≡ 14) ↔ (maxRows < length (fieldsOf block .rows) + n - 4)
+    → let site = siteOf (fieldsOf block) e f in
+    let n = m site in
+    minRing ≤ n → n ≤ maxRing → notFlat site ≡ false
+    → (removeAnswer block out e f ≡ 14) ↔ (maxRows < length (fieldsOf block .rows) + n - cond (site .closed) 4 3)
 
 -- ---- Orders
 -- "The edge's two ends are put in order, a < b; either order given has the same answer."

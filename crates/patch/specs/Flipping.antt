@@ -10,11 +10,11 @@ use Rattle.mesh.specs.Mesh.{numbers, holdsFace, noRow, keepsMeshRule}
 use Rattle.mesh.specs.Tetrahedra.{arrangedFrom}
 use Rattle.block.specs.Layout.{Patch, maxRows, fieldsOf, bytesOf}
 use Rattle.block.specs.Answers.{Tests, firstRefusal, written}
-use Rattle.ring.specs.Ring.{Site, siteOf, m, minRing, smallest, numbersWrong, edgeTests}
+use Rattle.ring.specs.Ring.{Site, siteOf, m, minRing, smallest, numbersWrong, ringsAlone, edgeTests}
 use Rattle.pieces.specs.Triangulation.{regionOf}
 use Rattle.patch.specs.Removing.{blockTests, noWay, patchAfter}
 
--- ---- the 3-2 flip: removal of an edge with m = 3, with no quality test
+-- ---- the 3-2 flip: removal of an edge with a closed ring of m = 3, with no quality test
 
 -- answers 13 and 15 of a 3-2 flip; 13: m is not 3; one row fewer comes than goes, so there is always room
 unfoldable pub flip32Tests : Site → Tests
@@ -24,7 +24,7 @@ flip32Tests site = (13, not (eqb (m site) minRing)) ∷ (15, noWay site) ∷ []
 unfoldable pub flip32Answer : List ℕ → List ℕ → ℕ → ℕ → ℕ
 flip32Answer block out e f =
     let site = siteOf (fieldsOf block) e f in
-    firstRefusal (blockTests block out ++ edgeTests site e f ++ flip32Tests site)
+    firstRefusal (blockTests block out ++ edgeTests ringsAlone site e f ++ flip32Tests site)
 
 -- each byte of the output block after the 3-2 flip of edge e f
 unfoldable pub flip32Bytes : List ℕ → List ℕ → ℕ → ℕ → List ℕ

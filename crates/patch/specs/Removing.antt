@@ -1,4 +1,4 @@
--- Document 01, "Numbered answers" of a removal: from all inputs to its answer, every byte of the output, page row and ring.
+-- Document 01, "Numbered answers" of a removal, with document 02's 19: from all inputs to its answer, every byte of the output, page row and ring.
 use Prim.Native.Nat.{ℕ, zero, suc, _-_}
 use mathlib.Core.Bool.{Bool, not, _||_}
 use mathlib.Core.List.{List, [], _∷_, _++_, map}
@@ -12,7 +12,7 @@ use Rattle.measure.specs.Page.{shown, pageRow}
 use Rattle.mesh.specs.Mesh.{rowQuality, totalD}
 use Rattle.block.specs.Layout.{Patch, maxRows, fieldsOf, bytesOf}
 use Rattle.block.specs.Answers.{Tests, firstRefusal, notBlock, sumWrong, bodyTests, openAnswer, written}
-use Rattle.ring.specs.Ring.{Site, siteOf, m, edgeTests, lengthWrong, ringWith}
+use Rattle.ring.specs.Ring.{Site, siteOf, m, orChains, edgeTests, lengthWrong, notFlat, ringWith}
 use Rattle.pieces.specs.Triangulation.{ways, tableAfter, rowsAfter}
 use Rattle.pieces.specs.Admissible.{admissible}
 use Rattle.pieces.specs.Best.{worstOfWay, ringWays, chosen}
@@ -51,10 +51,11 @@ patchAfter site = record { points = site .points; rows = tableAfter site (chosen
 unfoldable pub totalDiffers : Patch → Patch → Bool
 totalDiffers before after = not (sameZ (totalD (before .points) (before .rows)) (totalD (after .points) (after .rows)))
 
--- answers 13 to 17 of a removal
+-- answers 13 to 17 of a removal, and 19 directly after 13
 unfoldable pub removalTests : Patch → Site → Tests
 removalTests patch site =
     (13, lengthWrong site)
+    ∷ (19, notFlat site)
     ∷ (14, noRoom site)
     ∷ (15, noWay site)
     ∷ (16, noneBetter site)
@@ -67,13 +68,13 @@ unfoldable pub removeAnswer : List ℕ → List ℕ → ℕ → ℕ → ℕ
 removeAnswer block out e f =
     let patch = fieldsOf block in
     let site = siteOf patch e f in
-    firstRefusal (blockTests block out ++ edgeTests site e f ++ removalTests patch site)
+    firstRefusal (blockTests block out ++ edgeTests orChains site e f ++ removalTests patch site)
 
 -- each byte of the output block afterwards
 unfoldable pub removeBytes : List ℕ → List ℕ → ℕ → ℕ → List ℕ
 removeBytes block out e f = written (removeAnswer block out e f) (bytesOf (patchAfter (siteOf (fieldsOf block) e f))) out
 
--- there is a page row only with answer 0 of a removal; the ring stands beside it
+-- there is a page row only with answer 0 of a removal; the ring, or the chain, stands beside it
 unfoldable pub removeGives : List ℕ → List ℕ → ℕ → ℕ → Removed
 removeGives block out e f =
     let patch = fieldsOf block in
@@ -91,7 +92,7 @@ removalNumber (Refused n) = n
 
 -- ---- a premise of most laws
 
--- The block opens and answers 9 to 12 are not given, so the links make one closed ring.
+-- The block opens and answers 9 to 12 of a removal are not given, so the links make one closed ring or one open chain.
 pub record Sound (block : List ℕ) (e f : ℕ) : Type 0 where
   pub opens : openAnswer block ≡ 0
-  pub closed : firstRefusal (edgeTests (siteOf (fieldsOf block) e f) e f) ≡ 0
+  pub one : firstRefusal (edgeTests orChains (siteOf (fieldsOf block) e f) e f) ≡ 0

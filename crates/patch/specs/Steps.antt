@@ -1,6 +1,6 @@
--- The steps that the calls on an edge share: the edge with its ring, the rows afterwards, and answers 14 to 17.
+-- The steps that the calls on an edge share: the edge with its ring or chain, the rows afterwards, and answers 19 and 14 to 17.
 use Prim.Native.Nat.{ℕ, _<_}
-use mathlib.Core.Bool.{cond}
+use mathlib.Core.Bool.{Bool, false, cond}
 use mathlib.Core.List.{List, [], _∷_, _++_}
 use mathlib.Core.Option.{some}
 use mathlib.Core.Path.{_≡_}
@@ -14,10 +14,11 @@ use Rattle.block.specs.Answers.{firstRefusal, answerOf}
 use Rattle.tally.specs.Measured.{Measured}
 use Rattle.ring.specs.declared.Found.{Found}
 use Rattle.ring.specs.declared.Ring.{Ring}
-use Rattle.ring.specs.Ring.{Site, siteOf, m, edgeTests, lengthWrong, ringWith}
+use Rattle.ring.specs.Ring.{Site, siteOf, m, edgeTests, lengthWrong, notFlat, ringWith}
+use Rattle.ring.specs.Found.{foundWith}
 use Rattle.ring.specs.Sound.{SoundRing}
 use Rattle.pieces.specs.Triangulation.{tableAfter}
-use Rattle.pieces.specs.Best.{bestWorst, chosen, sameBest}
+use Rattle.pieces.specs.Best.{tableBest, chosen, sameBest}
 use Rattle.pieces.specs.Filling.{Ready, siteIn, bestOf}
 use Rattle.output.specs.Output.{tableWith}
 use Rattle.patch.specs.declared.Removal.the-variants as Removal
@@ -30,28 +31,25 @@ use Rattle.patch.specs.Flipping.{flip32Answer}
 
 -- ---- the edge
 
--- answers 1 to 13, tested from the top
-unfoldable pub edgeAnswer : List ℕ → List ℕ → ℕ → ℕ → ℕ
-edgeAnswer block out e f =
+-- answers 1 to 13, tested from the top, by what the call takes
+unfoldable pub edgeAnswer : Bool → List ℕ → List ℕ → ℕ → ℕ → ℕ
+edgeAnswer chains block out e f =
     let site = siteOf (fieldsOf block) e f in
-    firstRefusal (blockTests block out ++ edgeTests site e f ++ (13, lengthWrong site) ∷ [])
+    firstRefusal (blockTests block out ++ edgeTests chains site e f ++ (13, lengthWrong site) ∷ [])
 
 -- a refusal returns its number and nothing else
 abbrev pub foundNone : Answer → Found
-foundNone answer = record { answer = answer; ring = ringWith [] }
+foundNone answer = record { answer = answer; closed = false; ring = ringWith [] }
 
--- the answer and the ring
-unfoldable pub edgeFound : List ℕ → List ℕ → ℕ → ℕ → Found
-edgeFound block out e f =
-    let answer = edgeAnswer block out e f in
-    record { answer = answerOf answer; ring = ringWith (cond (eqb answer 0) (siteOf (fieldsOf block) e f .ring) []) }
+-- the answer and the ring or chain
+unfoldable pub edgeFound : Bool → List ℕ → List ℕ → ℕ → ℕ → Found
+edgeFound chains block out e f = foundWith (edgeAnswer chains block out e f) (siteOf (fieldsOf block) e f)
 
--- The edge (a,b) and its ring of 3 to 10 points, in a table that keeps the mesh rule: what the steps behind answer 13 ask for.
-pub record Ringed (coordinates : List ℕ) (count : ℕ) (table : List ℕ) (n a b : ℕ) (ring : Ring) : Type 0 where
-  pub ready : Ready coordinates count table n a b ring
+-- The edge (a,b) and its ring or chain of 3 to 10 points, in a table that keeps the mesh rule: what the steps behind answer 13 ask for.
+pub record Ringed (coordinates : List ℕ) (count : ℕ) (table : List ℕ) (n a b : ℕ) (closed : Bool) (ring : Ring) : Type 0 where
+  pub ready : Ready coordinates count table n a b closed ring
   pub measured : Measured coordinates count table n
   pub sound : SoundRing (siteIn coordinates count table n a b)
-  pub size : m (siteIn coordinates count table n a b) ≡ length (siteIn coordinates count table n a b .removed)
 
 -- ---- the rows afterwards
 
@@ -59,18 +57,23 @@ pub record Ringed (coordinates : List ℕ) (count : ℕ) (table : List ℕ) (n a
 abbrev pub rowsWith : List Row → Rows
 rowsWith rows = record { n = length rows; table = tableWith rows }
 
--- The best worst of the ring, as a fraction, or the mark; and the rows with the chosen triangulation.
+-- The best worst of the ring or chain, as a fraction, or the mark; and, where there is no mark, the rows with the chosen triangulation.
 pub record Carries (site : Site) (r : Carried) : Type 0 where
-  pub best : T (sameBest (bestOf (r .best)) (bestWorst site 1 (m site)))
+  pub best : T (sameBest (bestOf (r .best)) (tableBest site 1 (m site)))
   pub fraction : (q : Quality) → bestOf (r .best) ≡ some q → 0 < q .den
-  pub rows : r .rows ≡ rowsWith (tableAfter site (chosen site))
+  pub rows : (q : Quality) → bestOf (r .best) ≡ some q → r .rows ≡ rowsWith (tableAfter site (chosen site))
 
--- ---- answers 14 to 17
+-- ---- answers 19 and 14 to 17
 
--- 14 to 17, tested from the top
+-- 19 and 14 to 17, tested from the top
 unfoldable pub planAnswer : Patch → Site → ℕ
 planAnswer patch site =
-    firstRefusal ((14, noRoom site) ∷ (15, noWay site) ∷ (16, noneBetter site) ∷ (17, totalDiffers patch (patchAfter site)) ∷ [])
+    firstRefusal
+    ((19, notFlat site)
+    ∷ (14, noRoom site)
+    ∷ (15, noWay site)
+    ∷ (16, noneBetter site)
+    ∷ (17, totalDiffers patch (patchAfter site)) ∷ [])
 
 -- a refusal returns its number and nothing else
 abbrev pub noPlan : Answer → Plan

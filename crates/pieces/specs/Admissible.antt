@@ -1,14 +1,15 @@
--- Document 01, "Ring and replacement": when a triangulation is admissible, of the ring and of a piece.
+-- Document 01, "Ring and replacement": when a triangulation is admissible, of the ring and of a piece; and document 02's closing faces
+-- of a chain.
 use Prim.Native.Nat.{ℕ}
-use mathlib.Core.Bool.{Bool, not, _&&_}
+use mathlib.Core.Bool.{Bool, cond, not, _&&_}
 use mathlib.Core.List.{List, [], _∷_, map, flatMap}
 use lib.ListN.{length}
 use Rattle.lists.specs.Lists.{any}
-use Rattle.mesh.specs.Mesh.{Face, usesEitherWay, keepsMeshRule}
-use Rattle.ring.specs.Ring.{Site}
+use Rattle.mesh.specs.Mesh.{Face, uses, usesEitherWay, keepsMeshRule}
+use Rattle.ring.specs.Ring.{Site, m}
 use Rattle.pieces.specs.Triangulation.{Tri, Triangle, triangles, diagonals, v, tableAfter}
 
--- a triangulation of the ring is admissible if the whole table afterwards keeps the mesh rule
+-- a triangulation of the ring, or of the chain, is admissible if the whole table afterwards keeps the mesh rule
 unfoldable pub admissible : Site → Tri → Bool
 admissible site t = keepsMeshRule (length (site .points)) (tableAfter site t)
 
@@ -33,3 +34,14 @@ unfoldable pub pieceAdmissible : Site → ℕ → Tri → Bool
 pieceAdmissible site i t =
     not (any (keptUses site) (map (triangleFace site) (triangles i t)))
     && not (any (keptUses site) (flatMap (diagonalFaces site) (diagonals i t)))
+
+-- the outer faces with which new rows close a chain; the side v1 vm of a closed ring is never judged
+unfoldable pub closingFaces : Site → List Face
+closingFaces site =
+    let v1 = v site 1 in
+    let vm = v site (m site) in
+    cond (site .closed) [] ((site .a, v1, vm) ∷ (site .b, vm, v1) ∷ [])
+
+-- a kept row uses one of them, in the direction in which a new row would: that shuts every triangulation of the chain
+unfoldable pub shut : Site → Bool
+shut site = any (λ f. any (uses f) (site .kept)) (closingFaces site)

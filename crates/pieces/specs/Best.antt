@@ -1,6 +1,6 @@
 -- Document 01, "Ring and replacement": best worst, apex, the chosen triangulation, and the table kept with the ring.
 use Prim.Native.Nat.{ℕ, zero, suc, _+_, _-_, _*_, _≤_, _<_}
-use mathlib.Core.Bool.{Bool, true, false, _&&_}
+use mathlib.Core.Bool.{Bool, true, false, cond, _&&_}
 use mathlib.Core.List.{List, map}
 use mathlib.Core.Option.{Option, none, some, Option·getD}
 use mathlib.Core.Path.{_≡_}
@@ -14,7 +14,7 @@ use Rattle.mesh.specs.Mesh.{rowQuality}
 use Rattle.ring.specs.Ring.{Site, m, maxRing, ringWith}
 use Rattle.pieces.specs.declared.Pieces.{Pieces}
 use Rattle.pieces.specs.Triangulation.{Tri, side, cut, span, ways, newRows}
-use Rattle.pieces.specs.Admissible.{admissible, pieceAdmissible}
+use Rattle.pieces.specs.Admissible.{admissible, pieceAdmissible, shut}
 
 -- ---- best worst, apex and the chosen triangulation
 
@@ -66,6 +66,18 @@ chosen site = chosenOf site 1 (m site)
 
 -- ---- the table kept with the ring
 
+-- piece (i,j) is the whole of a chain that a kept row shuts; the closing side of any other piece is judged by the larger one
+abbrev pub shutPiece : Site → ℕ → ℕ → Bool
+shutPiece site i j = shut site && eqb i 1 && eqb j (m site)
+
+-- the best worst of piece (i,j), as the table keeps it: the mark also stands for a chain that is shut
+abbrev pub tableBest : Site → ℕ → ℕ → Option Quality
+tableBest site i j = cond (shutPiece site i j) none (bestWorst site i j)
+
+-- its apex, in the same way
+abbrev pub tableApex : Site → ℕ → ℕ → Option ℕ
+tableApex site i j = cond (shutPiece site i j) none (apex site i j)
+
 -- where the flat arrays keep piece (i,j)
 abbrev pub cellAt : ℕ → ℕ → ℕ
 cellAt i j = (i - 1) * maxRing + (j - 1)
@@ -98,6 +110,6 @@ sameBest (some q) (some r) = asGood q r
 pub record Keeps (site : Site) (table : Pieces) : Type 0 where
   pub length : table .m ≡ m site
   pub ring : table .ring ≡ ringWith (site .ring) .v
-  pub best : (i j : ℕ) → 1 ≤ i → i + 2 ≤ j → j ≤ m site → T (sameBest (keptBest table i j) (bestWorst site i j))
+  pub best : (i j : ℕ) → 1 ≤ i → i + 2 ≤ j → j ≤ m site → T (sameBest (keptBest table i j) (tableBest site i j))
   pub fractions : (i j : ℕ) → 1 ≤ i → i + 2 ≤ j → j ≤ m site → (q : Quality) → keptBest table i j ≡ some q → 0 < q .den
-  pub apexes : (i j : ℕ) → 1 ≤ i → i + 2 ≤ j → j ≤ m site → keptApex table i j ≡ apex site i j
+  pub apexes : (i j : ℕ) → 1 ≤ i → i + 2 ≤ j → j ≤ m site → keptApex table i j ≡ tableApex site i j

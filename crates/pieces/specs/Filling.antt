@@ -201,14 +201,15 @@ Blank kinds nums dens apexes size =
 abbrev pub siteIn : List ℕ → ℕ → List ℕ → ℕ → ℕ → ℕ → Site
 siteIn coordinates count table n a b = siteOf (record { points = pointsIn coordinates count; rows = rowsIn table n }) a b
 
--- The edge (a,b) has a ring of 3 to 10 points, and points and rows stand in their tables.
-pub record Ready (coordinates : List ℕ) (count : ℕ) (table : List ℕ) (n a b : ℕ) (ring : Ring) : Type 0 where
+-- The edge (a,b) has a ring or a chain of 3 to 10 points, and points and rows stand in their tables.
+pub record Ready (coordinates : List ℕ) (count : ℕ) (table : List ℕ) (n a b : ℕ) (closed : Bool) (ring : Ring) : Type 0 where
   pub points : pointSize * count ≤ length coordinates
   pub few-points : count ≤ maxPoints
   pub rows : rowSize * n ≤ length table
   pub few-rows : n ≤ maxRows
   pub ordered : a < b
   pub below : b < count
+  pub is-closed : closed ≡ siteIn coordinates count table n a b .closed
   pub found : ring ≡ ringWith (siteIn coordinates count table n a b .ring)
   pub long : minRing ≤ m (siteIn coordinates count table n a b)
   pub short : m (siteIn coordinates count table n a b) ≤ maxRing

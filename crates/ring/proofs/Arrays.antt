@@ -9,8 +9,8 @@ use Rattle.lists.specs.Lists.{numbersFrom}
 use Rattle.lists.proofs.Numbers.{numbers-e, map-numbers-length, map-numbers-at, map-numbers-append}
 use Rattle.lists.proofs.Images.{map-same, map-at}
 use Rattle.ring.specs.declared.Links.{Links}
-use Rattle.ring.specs.Ring.{Link, starts}
-use Rattle.ring.specs.Found.{ends, linksIn}
+use Rattle.ring.specs.Ring.{Link, starts, ends}
+use Rattle.ring.specs.Found.{linksIn}
 
 pub in-length : (links : Links) → length (linksIn links) ≡ links .n
 unfolding linksIn

@@ -1,27 +1,25 @@
--- Where a point starts at most one link and ends at most one, every walk closes exactly when every end of a link is the start of one.
+-- Where a point starts at most one link and ends at most one, the links all close exactly when a link comes to each start of one; and
+-- no walk closes that begins where no link comes.
 -- Idea: a walk that has not come back stands at a point not met before, and there are only so many points.
 use Prim.Native.Nat.{ℕ, zero, suc, _+_, _≤_}
 use mathlib.Core.Bool.{true, false}
-use mathlib.Core.List.{List, [], _∷_, List·Memᴰ, List·Memᴰ·head, List·Memᴰ·tail, List·Memᴰ·not-nil, Memᴰ·map, Memᴰ·of-map}
+use mathlib.Core.List.{List, [], _∷_, List·Memᴰ, List·Memᴰ·head, List·Memᴰ·tail, List·Memᴰ·not-nil, Memᴰ·map}
 use mathlib.Core.Option.{Option, none, some}
 use mathlib.Core.Path.{_≡_, refl, sym, ap, _∙_, subst}
 use native.Mathlib.Decide.{ℕ-discrete}
 use native.Mathlib.Omega.{arith}
 use lib.Dec.{T}
 use lib.ListN.{length, length-map}
-use Rattle.lists.specs.Lists.{every, has, different}
-use Rattle.lists.proofs.Tests.{same-test}
-use Rattle.lists.proofs.Lists.{every-at, every-i}
-use Rattle.lists.proofs.Numbers.{has-i, has-e, different-head, different-tail, different-i, no-more}
+use Rattle.lists.specs.Lists.{different}
+use Rattle.lists.proofs.Lists.{every-i}
+use Rattle.lists.proofs.Numbers.{different-head, different-tail, different-i, no-more, no-fewer}
 use Rattle.lists.proofs.Places.{in-cases}
 use Rattle.lists.proofs.Options.{some-is}
-use Rattle.ring.specs.Ring.{Link, next, circle, closes, starts}
-use Rattle.ring.specs.Found.{ends}
-use Rattle.ring.proofs.Walking.{Walks, last, more, next-in, next-is, next-some, walk-walks, walks-walk, walks-short, walks-start}
-use Rattle.ring.proofs.Walking.{walks-here}
+use Rattle.ring.specs.Ring.{Link, next, circle, closes, starts, ends, allClose}
+use Rattle.ring.proofs.Walking.{Walks, last, more, next-in, next-some, walk-walks, walks-walk, walks-short}
 
 -- a point ends at most one link
-one-before : (links : List Link) {x y z : ℕ} → T (different (ends links)) → List·Memᴰ (x, z) links → List·Memᴰ (y, z) links → x ≡ y
+pub one-before : (links : List Link) {x y z : ℕ} → T (different (ends links)) → List·Memᴰ (x, z) links → List·Memᴰ (y, z) links → x ≡ y
 one-before [] h m k = absurd (List·Memᴰ·not-nil m)
 one-before (l ∷ ls) {x} {y} {z} h m k =
     let fresh : (u : ℕ) → z ≡ l .1 → List·Memᴰ (u, z) ls → ⊥ =
@@ -45,12 +43,14 @@ closes-i links v w =
     subst (λ (o : Option (List ℕ)). T (elim o [ none ↦ false | some points ↦ true ]))
     (sym (walks-walk links v (length links) w (walks-short links v w))) tt
 
--- a step on a closed walk leads to a start
-pub step-start : (links : List Link) (start : ℕ) {here there : ℕ} {points : List ℕ} → Walks links start here points
-    → List·Memᴰ start (starts links)
-    → next links here ≡ some there → List·Memᴰ there (starts links)
-step-start links start (last e) m f = rw (some-is (sym f ∙ e)) m
-step-start links start (more e d w) m f = rw (some-is (sym f ∙ e)) (walks-start links start w (walks-here links start w))
+-- a link comes to the start of a closed walk
+walks-enter : (links : List Link) (start : ℕ) {here : ℕ} {points : List ℕ} → Walks links start here points
+    → List·Memᴰ start (ends links)
+walks-enter links start (last {here = here} e) = Memᴰ·map (λ (l : Link). l .1) (next-in links here e)
+walks-enter links start (more e d w) = walks-enter links start w
+
+pub closed-entered : (links : List Link) (v : ℕ) → T (closes links v) → List·Memᴰ v (ends links)
+closed-entered links v h = let (points, w) = closes-e links v h in walks-enter links v w
 
 module _ (links : List Link) (single : T (different (starts links))) (single-end : T (different (ends links))) where
   -- The walk from the start is here and has seen these points, each once; but for the start it came to each from one that it has seen.
@@ -90,8 +90,7 @@ module _ (links : List Link) (single : T (different (starts links))) (single-end
         go there e (yes q) f = (here ∷ [], last (rw q at e))
         go there e (no d) f = let (points, w) = f (trail-on t e d) in (here ∷ points, more e d w)
 
-    -- every walk closes
-    pub led-close : {v : ℕ} → List·Memᴰ v (starts links) → T (closes links v)
+    led-close : {v : ℕ} → List·Memᴰ v (starts links) → T (closes links v)
     led-close {v} m =
         let t : Trail v v [] = record {
           fresh = List·Memᴰ·not-nil;
@@ -102,16 +101,11 @@ module _ (links : List Link) (single : T (different (starts links))) (single-end
         let (points, w) = trail-walks (length links) t (omega arith) in
         closes-i links v w
 
-  -- every end of a link is the start of one, if every walk closes
-  pub close-led : T (every (closes links) (starts links)) → (x : ℕ) → List·Memᴰ x (ends links) → List·Memᴰ x (starts links)
-  close-led h x m =
-      let (l, m, i) = Memᴰ·of-map (λ (l : Link). l .1) links m in
-      let (points, w) = closes-e links (l .0) (every-at (closes links) (starts links) h (Memᴰ·map (λ (l : Link). l .0) m)) in
-      rw (← i) (step-start links (l .0) w (Memᴰ·map (λ (l : Link). l .0) m) (next-is links single m))
-
-  pub close-test : every (closes links) (starts links) ≡ every (has (starts links)) (ends links)
-  close-test =
-      same-test (every (closes links) (starts links)) (every (has (starts links)) (ends links))
-      (λ h. every-i (has (starts links)) (ends links) (λ x m. has-i (starts links) (close-led h x m)))
-      (λ h. every-i (closes links) (starts links)
-      (λ v m. led-close (λ x k. has-e (starts links) x (every-at (has (starts links)) (ends links) h k)) m))
+  -- as many starts as ends: if a link comes to each start, a link goes from each end, so every walk goes on until it closes
+  pub entered-close : ((x : ℕ) → List·Memᴰ x (starts links) → List·Memᴰ x (ends links)) → T (allClose links)
+  unfolding allClose
+  entered-close entered =
+      let led : (x : ℕ) → List·Memᴰ x (ends links) → List·Memᴰ x (starts links) = λ x m.
+      no-fewer (starts links) (ends links) single entered
+      (omega (arith, length-map links (λ (l : Link). l .0), length-map links (λ (l : Link). l .1))) m in
+      every-i (closes links) (starts links) (λ v m. led-close led m)

@@ -1,71 +1,72 @@
--- What the walk from the smallest start tells: the first of 10 to 13 that is given, or the ring.
--- Idea: a walk that closes by as many points as there are links has met them all;
--- of another it is enough to ask whether each end is a start.
-use Prim.Native.Nat.{ℕ, _≤_, _<_, min, max}
-use mathlib.Core.Bool.{Bool, true, false, not, _||_}
-use mathlib.Core.List.{List, [], List·Memᴰ, Memᴰ·map, Memᴰ·of-map}
+-- What the walk from the first point tells: the first of 10 to 13 that is given, or the ring or chain.
+-- Idea: a walk that closes by as many points as there are links has met them all; one that ends has met them all if it has a point more.
+use Prim.Native.Nat.{ℕ, suc, _≤_, _<_, min, max}
+use mathlib.Core.Bool.{Bool, true, false, cond, not, _&&_, _||_}
+use mathlib.Core.List.{List, [], _∷_, List·Memᴰ, List·Memᴰ·head, List·Memᴰ·not-nil}
 use mathlib.Core.Option.{Option, none, some, Option·getD}
 use mathlib.Core.Path.{_≡_, refl, sym, ap, _∙_, subst}
 use native.Mathlib.Omega.{arith}
-use borrow.Author.Tests.{eq-eqb, ne-eqb, lt-ltb, le-ltb}
+use borrow.Author.Tests.{eq-eqb, ne-eqb}
 use lib.Dec.{T, ltb, not-T}
 use lib.ListN.{length, take, length-map}
 use lib.Seq.{length-take-le}
 use Rattle.lists.specs.Lists.{every, has, different}
-use Rattle.lists.proofs.Tests.{yes-is, no-is}
+use Rattle.lists.proofs.Tests.{yes-is, no-is, is-yes}
 use Rattle.lists.proofs.Lists.{every-at, every-i}
 use Rattle.lists.proofs.Numbers.{has-i, has-e, no-more, no-fewer}
+use Rattle.lists.proofs.Options.{some-is, none-not}
 use Rattle.mesh.specs.Mesh.{rowsIn, keepsMeshRule}
-use Rattle.block.specs.declared.Answer.the-variants.{Done}
 use Rattle.block.specs.Layout.{Patch}
 use Rattle.block.specs.Answers.{firstRefusal}
 use Rattle.ring.specs.declared.Links.{Links}
-use Rattle.ring.specs.declared.Ring.{Ring}
-use Rattle.ring.specs.declared.Circle.{Circle}
-use Rattle.ring.specs.Ring.{Link, link, circle, closes, starts, smallest, ringOf, Site}
-use Rattle.ring.specs.Ring.{siteOf, minRing, maxRing, edgeMissing, linkOpen, manyCircles, lengthWrong, ringWith}
-use Rattle.ring.specs.Found.{foundOf, ringTests, refusedWith, edgeIn, linksOf, ends, linksIn, walked, Table}
+use Rattle.ring.specs.declared.Found.{Found}
+use Rattle.ring.specs.declared.Trail.{Trail}
+use Rattle.ring.specs.Ring.{Link, link, circle, closes, allClose, starts, ends, smallest, circleOf, heads, follow, chainOf, Site}
+use Rattle.ring.specs.Ring.{siteOf, minRing, maxRing, edgeMissing, whole, ringsAlone, orChains, linkOpen, manyCircles, lengthWrong}
+use Rattle.ring.specs.Found.{foundOf, ringTests, refusedWith, sizedOf, edgeIn, linksOf, linksIn, wentBy, walked, StartsAt, Table}
 use Rattle.ring.proofs.Arrays.{in-length}
 use Rattle.ring.proofs.Linking.{starts-different, ends-different}
-use Rattle.ring.proofs.Walking.{Walks, walk-walks, walks-different, walks-start, walks-from, next-is}
-use Rattle.ring.proofs.Rounding.{smallest-in}
-use Rattle.ring.proofs.Closing.{close-test, step-start}
+use Rattle.ring.proofs.Walking.{Walks, walk-walks, walks-different, walks-start}
+use Rattle.ring.proofs.Chains.{Runs, no-head-close, head-open, head-e, head-runs, run-followed, more-covers, run-chain, no-chain}
+use Rattle.ring.proofs.Rounding.{ring-circle}
 
 -- ---- the first refusal
 
-module _ (site : Site) where
-  found-10 : edgeMissing site ≡ true → foundOf site ≡ refusedWith 10
+module _ (chains : Bool) (site : Site) where
+  found-10 : edgeMissing site ≡ true → foundOf chains site ≡ refusedWith 10
   unfolding foundOf ringTests firstRefusal
   found-10 p = rw p
 
-  found-11 : edgeMissing site ≡ false → linkOpen site ≡ true → foundOf site ≡ refusedWith 11
-  unfolding foundOf ringTests firstRefusal
-  found-11 p q = rw (p, q)
+  module _ (held : edgeMissing site ≡ false) where
+    found-11 : linkOpen chains site ≡ true → foundOf chains site ≡ refusedWith 11
+    unfolding foundOf ringTests firstRefusal
+    found-11 q = rw (held, q)
 
-  found-12 : edgeMissing site ≡ false → linkOpen site ≡ false → manyCircles site ≡ true → foundOf site ≡ refusedWith 12
-  unfolding foundOf ringTests firstRefusal
-  found-12 p q r = rw (p, q, r)
+    module _ (taken : linkOpen chains site ≡ false) where
+      found-12 : manyCircles site ≡ true → foundOf chains site ≡ refusedWith 12
+      unfolding foundOf ringTests firstRefusal
+      found-12 r = rw (held, taken, r)
 
-  found-13 : edgeMissing site ≡ false → linkOpen site ≡ false → manyCircles site ≡ false → lengthWrong site ≡ true
-      → foundOf site ≡ refusedWith 13
-  unfolding foundOf ringTests firstRefusal
-  found-13 p q r s = rw (p, q, r, s)
-
-  found-0 : edgeMissing site ≡ false → linkOpen site ≡ false → manyCircles site ≡ false → lengthWrong site ≡ false
-      → foundOf site ≡ record { answer = Done; ring = ringWith (site .ring) }
-  unfolding foundOf ringTests firstRefusal
-  found-0 p q r s = rw (p, q, r, s)
+      -- 13, or the ring or chain
+      found-sized : manyCircles site ≡ false → foundOf chains site ≡ sizedOf (site .closed) (site .ring)
+      unfolding foundOf ringTests firstRefusal sizedOf
+      found-sized r = go (lengthWrong site) refl
+        where
+          go : (b : Bool) → lengthWrong site ≡ b → foundOf chains site ≡ sizedOf (site .closed) (site .ring)
+          go true s = rw (held, taken, r, s)
+          go false s = rw (held, taken, r, s)
 
 -- ---- what each test comes to
 
 -- What the mesh rule gives of an edge in its patch.
-pub record Ruled (site : Site) : Type 0 where
-  pub single : T (different (starts (site .links)))
-  pub single-end : T (different (ends (site .links)))
-  pub count : length (site .links) ≡ length (site .removed)
-  pub ring : site .ring ≡ ringOf (site .links)
+record Ruled (site : Site) : Type 0 where
+  single : T (different (starts (site .links)))
+  single-end : T (different (ends (site .links)))
+  count : length (site .links) ≡ length (site .removed)
+  closed : site .closed ≡ allClose (site .links)
+  ring : site .ring ≡ cond (allClose (site .links)) (circleOf (site .links)) (chainOf (site .links))
 
-pub ruled : (count : ℕ) (patch : Patch) (e f : ℕ) → (e ≡ f → ⊥) → T (keepsMeshRule count (patch .rows)) → Ruled (siteOf patch e f)
+ruled : (count : ℕ) (patch : Patch) (e f : ℕ) → (e ≡ f → ⊥) → T (keepsMeshRule count (patch .rows)) → Ruled (siteOf patch e f)
 unfolding siteOf
 ruled count patch e f apart rule =
     let apart : min e f ≡ max e f → ⊥ = λ i. apart (omega arith) in
@@ -73,97 +74,127 @@ ruled count patch e f apart rule =
       single = starts-different (min e f) (max e f) apart count (patch .rows) rule;
       single-end = ends-different (min e f) (max e f) apart count (patch .rows) rule;
       count = length-map ((siteOf patch e f) .removed) (link (min e f) (max e f));
+      closed = refl;
       ring = refl;
     }
 
--- tests that hold of each, or fail of one
-all-of : {A : Type 0} (p : A → Bool) (xs : List A) → ((x : A) → List·Memᴰ x xs → T (p x)) → not (every p xs) ≡ false
-all-of p xs f = ap not (yes-is (every p xs) (every-i p xs f))
-
-not-all : {A : Type 0} (p : A → Bool) (xs : List A) → (T (every p xs) → ⊥) → not (every p xs) ≡ true
-not-all p xs f = ap not (no-is (every p xs) (not-T (every p xs) f))
-
 module _ (site : Site) (law : Ruled site) where
-  start-count : length (starts (site .links)) ≡ length (site .links)
-  start-count = length-map (site .links) (λ l. l .0)
+  abbrev links : List Link
+  links = site .links
 
-  open-is : linkOpen site ≡ not (every (has (starts (site .links))) (ends (site .links)))
-  unfolding linkOpen
-  open-is = ap not (close-test (site .links) (law .single) (law .single-end))
+  start-count : length (starts links) ≡ length links
+  start-count = length-map links (λ l. l .0)
 
-  pub found-none : length (site .links) ≡ 0 → foundOf site ≡ refusedWith 10
-  found-none h = found-10 site (eq-eqb (length (site .removed)) 0 (omega (arith, law .count)))
+  found-none : (chains : Bool) → length links ≡ 0 → foundOf chains site ≡ refusedWith 10
+  found-none chains h = found-10 chains site (eq-eqb (length (site .removed)) 0 (omega (arith, law .count)))
 
-  -- some row holds the edge
-  module _ (some-link : 0 < length (site .links)) where
+  module _ (some-link : 0 < length links) (v : ℕ) (start : StartsAt links v) where
     held : edgeMissing site ≡ false
-    held = ne-eqb (length (site .removed)) 0 (λ (i : length (site .removed) ≡ 0). omega (arith, law .count))
+    held = ne-eqb (length (site .removed)) 0 (λ q. omega (arith, law .count))
 
-    v1-starts : List·Memᴰ (smallest (starts (site .links))) (starts (site .links))
-    v1-starts = smallest-in (starts (site .links)) (omega (arith, start-count))
+    -- no head, or one at v
+    heads-cases : {P : Type 0} → (heads links ≡ [] → P) → (List·Memᴰ v (heads links) → P) → P
+    heads-cases {P} f g = go (heads links) refl
+      where
+        go : (hs : List ℕ) → heads links ≡ hs → P
+        go [] e = f e
+        go (h ∷ hs) e = g (start .head (λ z. List·Memᴰ·not-nil (subst (λ ns. List·Memᴰ h ns) (sym e ∙ z) (List·Memᴰ·head refl))))
 
-    -- the walk from the smallest start does not close
-    pub found-open : circle (site .links) (smallest (starts (site .links))) ≡ none → foundOf site ≡ refusedWith 11
-    unfolding linkOpen
-    found-open q =
-        let shut : T (closes (site .links) (smallest (starts (site .links)))) → ⊥ = λ t.
-        subst (λ (o : Option (List ℕ)). T (elim o [ none ↦ false | some points ↦ true ])) q t
-        in
-        found-11 site held
-        (not-all (closes (site .links)) (starts (site .links))
-        (λ t. shut (every-at (closes (site .links)) (starts (site .links)) t v1-starts)))
+    -- ---- the walk closes by these points
 
-    -- some end of a link is no start
-    pub found-led : every (has (starts (site .links))) (ends (site .links)) ≡ false → foundOf site ≡ refusedWith 11
-    found-led q = found-11 site held (open-is ∙ ap not q)
+    module _ (points : List ℕ) (goes : circle links v ≡ some points) where
+      closes-there : T (closes links v)
+      closes-there = subst (λ (o : Option (List ℕ)). T (elim o [ none ↦ false | some points ↦ true ])) (sym goes) tt
 
-    -- the walk closes by these points
-    module _ (points : List ℕ) (goes : circle (site .links) (smallest (starts (site .links))) ≡ some points) where
+      no-head : heads links ≡ []
+      no-head = heads-cases (λ e. e) (λ m. absurd (subst T (head-open links m) closes-there))
+
+      close : T (allClose links)
+      close = no-head-close links (law .single) (law .single-end) no-head
+
+      all-closed : site .closed ≡ true
+      all-closed = law .closed ∙ yes-is (allClose links) close
+
       ring-is : site .ring ≡ points
-      unfolding ringOf
-      ring-is = law .ring ∙ ap (λ o. Option·getD o []) goes
+      ring-is =
+          law .ring
+          ∙ ap (λ c. cond c (circleOf links) (chainOf links)) (yes-is (allClose links) close)
+          ∙ some-is (sym (ring-circle links some-link close) ∙ ap (circle links) (sym (start .entered no-head)) ∙ goes)
 
-      walks : Walks (site .links) (smallest (starts (site .links))) (smallest (starts (site .links))) points
-      walks = walk-walks (site .links) (smallest (starts (site .links))) (length (site .links)) (smallest (starts (site .links))) goes
+      walks : Walks links v v points
+      walks = walk-walks links v (length links) v goes
 
-      -- each end is a start, and the walk has left links out
-      pub found-many : every (has (starts (site .links))) (ends (site .links)) ≡ true → length points < length (site .links)
-          → foundOf site ≡ refusedWith 12
-      unfolding manyCircles
-      found-many q l =
-          found-12 site held (open-is ∙ ap not q)
-          (not-all (has (site .ring)) (starts (site .links)) (λ t.
-          let on : (n : ℕ) → List·Memᴰ n (starts (site .links)) → List·Memᴰ n points = λ n m.
-          has-e points n (rw ring-is at (every-at (has (site .ring)) (starts (site .links)) t m))
+      closed-taken : (chains : Bool) → linkOpen chains site ≡ false
+      unfolding linkOpen
+      closed-taken chains = rw all-closed
+
+      -- it has left links out
+      found-many : (chains : Bool) → length points < length links → foundOf chains site ≡ refusedWith 12
+      unfolding manyCircles whole
+      found-many chains l =
+          found-12 chains site held (closed-taken chains) (ap not (no-is (whole site) (not-T (whole site) (λ t.
+          let on : (n : ℕ) → List·Memᴰ n (starts links) → List·Memᴰ n points = λ n m.
+          has-e points n (rw ring-is at (every-at (has (site .ring)) (starts links) t m))
           in
-          omega (arith, start-count, no-more (starts (site .links)) points (law .single) on)))
+          omega (arith, start-count, no-more (starts links) points (law .single) on)))))
 
-      -- the walk has left no link out
-      module _ (whole : length (site .links) ≤ length points) where
-        on-ring : {n : ℕ} → List·Memᴰ n (starts (site .links)) → List·Memᴰ n points
-        on-ring m =
-            no-fewer points (starts (site .links)) (walks-different (site .links) _ walks)
-            (λ n k. walks-start (site .links) _ walks k) (omega (arith, start-count)) m
+      -- it has left no link out
+      found-ring : (chains : Bool) → length links ≤ length points → foundOf chains site ≡ sizedOf true points
+      unfolding manyCircles whole
+      found-ring chains l =
+          let on-ring : T (whole site) = every-i (has (site .ring)) (starts links) (λ n m.
+          rw ring-is (has-i points (no-fewer points (starts links) (walks-different links v walks)
+          (λ n k. walks-start links v walks k) (omega (arith, start-count)) m))) in
+          found-sized chains site held (closed-taken chains) (ap not (yes-is (whole site) on-ring)) ∙ rw (all-closed, ring-is)
 
-        led : (n : ℕ) → List·Memᴰ n (ends (site .links)) → List·Memᴰ n (starts (site .links))
-        led n m =
-            let (l, k, i) = Memᴰ·of-map (λ (l : Link). l .1) (site .links) m in
-            let (others, w, s) = walks-from (site .links) _ walks (on-ring (Memᴰ·map (λ (l : Link). l .0) k)) in
-            rw (← i) (step-start (site .links) _ w v1-starts (next-is (site .links) (law .single) k))
+    -- ---- the walk ends
 
-        shut : linkOpen site ≡ false
-        shut = open-is ∙ all-of (has (starts (site .links))) (ends (site .links)) (λ n m. has-i (starts (site .links)) (led n m))
+    module _ (ends-there : circle links v ≡ none) where
+      at-head : List·Memᴰ v (heads links)
+      at-head = heads-cases
+          (λ e.
+          let close = no-head-close links (law .single) (law .single-end) e in
+          absurd (none-not (sym ends-there ∙ ap (circle links) (start .entered e) ∙ ring-circle links some-link close)))
+          (λ m. m)
 
-        one : manyCircles site ≡ false
-        unfolding manyCircles
-        one = all-of (has (site .ring)) (starts (site .links)) (λ n m. rw ring-is (has-i points (on-ring m)))
+      unclosed : site .closed ≡ false
+      unfolding allClose
+      unclosed =
+          law .closed
+          ∙ no-is (allClose links) (not-T (allClose links) (λ t.
+          subst T (head-open links at-head) (every-at (closes links) (starts links) t (head-e links at-head .0))))
 
-        pub found-wrong : ltb (length points) minRing || ltb maxRing (length points) ≡ true → foundOf site ≡ refusedWith 13
-        found-wrong q = found-13 site held shut one (rw ring-is q)
+      chain-is : site .ring ≡ chainOf links
+      chain-is = law .ring ∙ ap (λ c. cond c (circleOf links) (chainOf links)) (sym (law .closed) ∙ unclosed)
 
-        pub found-ring : ltb (length points) minRing || ltb maxRing (length points) ≡ false
-            → foundOf site ≡ record { answer = Done; ring = ringWith points }
-        found-ring q = found-0 site held shut one (rw ring-is q) ∙ rw ring-is
+      -- where rings alone are taken
+      found-alone : foundOf ringsAlone site ≡ refusedWith 11
+      unfolding linkOpen
+      found-alone = found-11 ringsAlone site held (rw unclosed)
+
+      module _ (points : List ℕ) (followed : points ≡ follow (length links) links v) where
+        run : Runs links v points
+        run =
+            let (others, w) = head-runs links (law .single) (law .single-end) at-head in
+            subst (λ ps. Runs links v ps) (sym (followed ∙ run-followed links w)) w
+
+        -- it has left links out
+        found-broken : length points ≤ length links → foundOf orChains site ≡ refusedWith 11
+        unfolding linkOpen whole
+        found-broken l =
+            let broken : whole site ≡ false = no-is (whole site) (not-T (whole site) (λ t.
+            no-chain links (law .single) (law .single-end) at-head run l
+            (subst (λ ring. T (every (has ring) (starts links))) chain-is t))) in
+            found-11 orChains site held (rw (unclosed, broken))
+
+        -- it has left no link out
+        found-chain : length links < length points → foundOf orChains site ≡ sizedOf false points
+        unfolding linkOpen manyCircles whole
+        found-chain l =
+            let covers = more-covers links (law .single) (law .single-end) at-head run l in
+            let is : site .ring ≡ points = chain-is ∙ run-chain links (law .single) (law .single-end) at-head run covers in
+            let all : whole site ≡ true = yes-is (whole site) (subst (λ ring. T (every (has ring) (starts links))) (sym is) covers) in
+            found-sized orChains site held (rw (unclosed, all)) (ap not all) ∙ rw (unclosed, is)
 
 -- ---- the same of a table, by the arrays that the code keeps
 
@@ -173,13 +204,16 @@ pub record Gathered (table : List ℕ) (n a b : ℕ) : Type 0 where
   pub links : Links
   pub are : linksIn links ≡ linksOf a b (rowsIn table n)
 
--- Some links of a table, and the walk from their smallest start.
+-- Some links of a table, and the walk from their first point.
 pub record Gone (table : List ℕ) (n a b : ℕ) : Type 0 where
   pub gathered : Gathered table n a b
   pub some-link : 0 < gathered .links .n
-  pub walk : Circle
-  pub room : walk .m ≤ length (walk .v)
-  pub went : walked walk ≡ circle (linksIn (gathered .links)) (smallest (starts (linksIn (gathered .links))))
+  pub v : ℕ
+  pub start : StartsAt (linksIn (gathered .links)) v
+  pub trail : Trail
+  pub room : trail .m ≤ length (trail .v)
+  pub went : walked trail ≡ circle (linksIn (gathered .links)) v
+  pub ended : trail .closed ≡ false → wentBy trail ≡ follow (gathered .links .n) (linksIn (gathered .links)) v
 
 module _ {table : List ℕ} {n a b : ℕ} (g : Gathered table n a b) where
   links-are : linksIn (g .links) ≡ (edgeIn (rowsIn table n) a b) .links
@@ -195,56 +229,61 @@ module _ {table : List ℕ} {n a b : ℕ} (g : Gathered table n a b) where
   link-count : length ((edgeIn (rowsIn table n) a b) .links) ≡ g .links .n
   link-count = sym (ap length links-are) ∙ in-length (g .links)
 
-  pub gives-10 : g .links .n ≡ 0 → refusedWith 10 ≡ foundOf (edgeIn (rowsIn table n) a b)
-  gives-10 h = sym (found-none _ table-ruled (omega (arith, link-count)))
+  pub gives-10 : (chains : Bool) → g .links .n ≡ 0 → refusedWith 10 ≡ foundOf chains (edgeIn (rowsIn table n) a b)
+  gives-10 chains h = sym (found-none _ table-ruled chains (omega (arith, link-count)))
 
 module _ {table : List ℕ} {n a b : ℕ} (gone : Gone table n a b) where
-  law : Ruled (edgeIn (rowsIn table n) a b)
-  law = table-ruled (gone .gathered)
+  abbrev its : Site
+  its = edgeIn (rowsIn table n) a b
 
-  some-here : 0 < length ((edgeIn (rowsIn table n) a b) .links)
+  law-of : Ruled its
+  law-of = table-ruled (gone .gathered)
+
+  some-here : 0 < length (its .links)
   some-here = omega (arith, link-count (gone .gathered), gone .some-link)
 
-  circle-is : circle ((edgeIn (rowsIn table n) a b) .links) (smallest (starts ((edgeIn (rowsIn table n) a b) .links))) ≡ walked (gone .walk)
+  starts-here : StartsAt (its .links) (gone .v)
+  starts-here = subst (λ ls. StartsAt ls (gone .v)) (links-are (gone .gathered)) (gone .start)
+
+  circle-is : circle (its .links) (gone .v) ≡ walked (gone .trail)
   circle-is = rw (← (links-are (gone .gathered))) (sym (gone .went))
 
-  pub gives-open : gone .walk .closed ≡ false → refusedWith 11 ≡ foundOf (edgeIn (rowsIn table n) a b)
-  gives-open q = sym (found-open _ law some-here (circle-is ∙ rw q))
-
-  pub gives-11 : every (has (starts (linksIn (gone .gathered .links)))) (ends (linksIn (gone .gathered .links))) ≡ false
-      → refusedWith 11 ≡ foundOf (edgeIn (rowsIn table n) a b)
-  gives-11 q = sym (found-led _ law some-here (rw (links-are (gone .gathered)) at q))
+  size : length (wentBy (gone .trail)) ≡ gone .trail .m
+  size = length-take-le (gone .trail .m) (gone .trail .v) (gone .room)
 
   -- the walk came back
-  module _ (closed : gone .walk .closed ≡ true) where
-    size : length (take (gone .walk .m) (gone .walk .v)) ≡ gone .walk .m
-    size = length-take-le (gone .walk .m) (gone .walk .v) (gone .room)
-
-    goes : circle ((edgeIn (rowsIn table n) a b) .links) (smallest (starts ((edgeIn (rowsIn table n) a b) .links)))
-        ≡ some (take (gone .walk .m) (gone .walk .v))
+  module _ (closed : gone .trail .closed ≡ true) where
+    goes : circle (its .links) (gone .v) ≡ some (wentBy (gone .trail))
     goes = circle-is ∙ rw closed
 
-    pub gives-12 : every (has (starts (linksIn (gone .gathered .links)))) (ends (linksIn (gone .gathered .links))) ≡ true
-        → gone .walk .m < gone .gathered .links .n
-        → refusedWith 12 ≡ foundOf (edgeIn (rowsIn table n) a b)
-    gives-12 q l = sym (found-many _ law some-here _ goes (rw (links-are (gone .gathered)) at q)
-        (omega (arith, size, link-count (gone .gathered))))
+    pub gives-12 : (chains : Bool) → gone .trail .m < gone .gathered .links .n → refusedWith 12 ≡ foundOf chains its
+    gives-12 chains l =
+        sym (found-many its law-of some-here (gone .v) starts-here _ goes chains (omega (arith, size, link-count (gone .gathered))))
 
-    -- by all the links
-    module _ (whole : gone .gathered .links .n ≤ gone .walk .m) where
-      all-links : length ((edgeIn (rowsIn table n) a b) .links) ≤ length (take (gone .walk .m) (gone .walk .v))
-      all-links = omega (arith, size, link-count (gone .gathered))
+    pub gives-ring : (chains : Bool) → gone .gathered .links .n ≤ gone .trail .m
+        → sizedOf (gone .trail .closed) (wentBy (gone .trail)) ≡ foundOf chains its
+    gives-ring chains l =
+        rw closed
+        (sym (found-ring its law-of some-here (gone .v) starts-here _ goes chains (omega (arith, size, link-count (gone .gathered)))))
 
-      pub gives-short : gone .walk .m < minRing → refusedWith 13 ≡ foundOf (edgeIn (rowsIn table n) a b)
-      gives-short l = sym (found-wrong _ law some-here _ goes all-links (rw (size, lt-ltb (gone .walk .m) minRing l)))
+  -- it ended
+  module _ (ended : gone .trail .closed ≡ false) where
+    stops : circle (its .links) (gone .v) ≡ none
+    stops = circle-is ∙ rw ended
 
-      pub gives-long : minRing ≤ gone .walk .m → maxRing < gone .walk .m → refusedWith 13 ≡ foundOf (edgeIn (rowsIn table n) a b)
-      gives-long k l =
-          sym (found-wrong _ law some-here _ goes all-links (rw (size, le-ltb (gone .walk .m) minRing k, lt-ltb maxRing (gone .walk .m) l)))
+    followed : wentBy (gone .trail) ≡ follow (length (its .links)) (its .links) (gone .v)
+    followed = gone .ended ended ∙ rw (links-are (gone .gathered), link-count (gone .gathered))
 
-      pub gives-ring : {ring : Ring} → minRing ≤ gone .walk .m → gone .walk .m ≤ maxRing
-          → ring ≡ ringWith (take (gone .walk .m) (gone .walk .v))
-          → record { answer = Done; ring = ring } ≡ foundOf (edgeIn (rowsIn table n) a b)
-      gives-ring k l q =
-          rw q (sym (found-ring _ law some-here _ goes all-links
-          (rw (size, le-ltb (gone .walk .m) minRing k, le-ltb maxRing (gone .walk .m) l))))
+    pub gives-alone : {chains : Bool} → chains ≡ false → refusedWith 11 ≡ foundOf chains its
+    gives-alone c = rw c (sym (found-alone its law-of some-here (gone .v) starts-here stops))
+
+    pub gives-broken : {chains : Bool} → chains ≡ true → gone .trail .m ≤ gone .gathered .links .n → refusedWith 11 ≡ foundOf chains its
+    gives-broken c l =
+        rw c (sym (found-broken its law-of some-here (gone .v) starts-here stops _ followed
+        (omega (arith, size, link-count (gone .gathered)))))
+
+    pub gives-chain : {chains : Bool} → chains ≡ true → gone .gathered .links .n < gone .trail .m
+        → sizedOf (gone .trail .closed) (wentBy (gone .trail)) ≡ foundOf chains its
+    gives-chain c l =
+        rw (c, ended) (sym (found-chain its law-of some-here (gone .v) starts-here stops _ followed
+        (omega (arith, size, link-count (gone .gathered)))))

@@ -3,8 +3,10 @@ pub mod Tables
 pub mod Linking
 pub mod Walking
 pub mod Stepping
-pub mod Rounding
+pub mod Smallest
 pub mod Closing
+pub mod Chains
+pub mod Rounding
 pub mod Sites
 pub mod Finding
 pub mod Order

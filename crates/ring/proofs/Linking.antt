@@ -22,8 +22,8 @@ use Rattle.mesh.proofs.Counted.{hits, hits-cons}
 use Rattle.mesh.proofs.Rule.{fit-proper, keeps-fits, keeps-hits}
 use Rattle.mesh.proofs.Evenly.{spin, even-i, even-uses, holds-cases, even-holds, even-proper}
 use Rattle.mesh.proofs.Places.{even-trans, even-sym, arranged-from}
-use Rattle.ring.specs.Ring.{Link, link, starts}
-use Rattle.ring.specs.Found.{linksOf, ends, following}
+use Rattle.ring.specs.Ring.{Link, link, starts, ends}
+use Rattle.ring.specs.Found.{linksOf, following}
 
 -- The two points of a link round a, b, and the ends: below the count, the points different from each other, from a and from b.
 pub record LinkFits (count a b : ℕ) (l : Link) : Type 0 where

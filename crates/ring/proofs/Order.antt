@@ -1,7 +1,7 @@
--- The ring and answers 10 to 13 do not depend on the order of the rows, on their even arrangement, or on the order of the ends.
+-- The ring or chain and answers 10 to 13 do not depend on the order of the rows, on their even arrangement, or on the order of the ends.
 -- Idea: two tables of the same tetrahedra have the same links, and where a point starts at most one link their order plays no part.
 use Prim.Native.Nat.{ℕ, zero, suc, min, max}
-use mathlib.Core.Bool.{Bool, true, false, not, _&&_, _||_}
+use mathlib.Core.Bool.{Bool, true, false, cond, not, _&&_, _||_}
 use mathlib.Core.List.{List, [], _∷_, List·Memᴰ, Memᴰ·map, Memᴰ·of-map}
 use mathlib.Core.Option.{Option, none, some, Option·getD}
 use mathlib.Core.Path.{_≡_, refl, sym, ap, _∙_, subst}
@@ -21,12 +21,13 @@ use Rattle.mesh.proofs.Evenly.{even-holds}
 use Rattle.mesh.proofs.Places.{even-refl}
 use Rattle.mesh.proofs.Alike.{same-keeps}
 use Rattle.block.specs.Layout.{Patch}
-use Rattle.ring.specs.Ring.{Link, link, next, walk, circle, closes}
-use Rattle.ring.specs.Ring.{starts, smallest, ringOf, siteOf, numbersWrong, linkOpen, manyCircles}
+use Rattle.ring.specs.Ring.{Link, link, next, walk, circle, closes, starts, ends, smallest, allClose, circleOf, heads, follow, chainOf}
+use Rattle.ring.specs.Ring.{siteOf, numbersWrong, whole, linkOpen, manyCircles}
 use Rattle.ring.specs.Found.{linksOf, ringTests, foundOf}
 use Rattle.ring.proofs.Linking.{starts-different, link-even}
 use Rattle.ring.proofs.Walking.{back-or-on, stepped, next-in, next-is}
-use Rattle.ring.proofs.Rounding.{smallest-same}
+use Rattle.ring.proofs.Smallest.{smallest-same}
+use Rattle.ring.proofs.Chains.{head-e, head-i}
 
 -- ---- the order of the ends
 
@@ -97,10 +98,11 @@ module _ (ls ks : List Link) (once : T (different (starts ls))) (once' : T (diff
   circle-same : (v : ℕ) → circle ls v ≡ circle ks v
   circle-same v = rw length-same (walk-same (length ks) v v)
 
-  pub ring-same : ringOf ls ≡ ringOf ks
-  unfolding ringOf
-  ring-same = ap (λ o. Option·getD o []) (ap (circle ls) (smallest-same (starts ls) (starts ks) to-start from-start)
-      ∙ circle-same (smallest (starts ks)))
+  to-end : (n : ℕ) → List·Memᴰ n (ends ls) → List·Memᴰ n (ends ks)
+  to-end n m = let (l, k, e) = Memᴰ·of-map (λ (l : Link). l .1) ls m in rw (← e) (Memᴰ·map (λ (l : Link). l .1) (to l k))
+
+  from-end : (n : ℕ) → List·Memᴰ n (ends ks) → List·Memᴰ n (ends ls)
+  from-end n m = let (l, k, e) = Memᴰ·of-map (λ (l : Link). l .1) ks m in rw (← e) (Memᴰ·map (λ (l : Link). l .1) (from l k))
 
   -- a test of each start
   each-same : (p q : ℕ → Bool) → ((n : ℕ) → p n ≡ q n) → every p (starts ls) ≡ every q (starts ks)
@@ -109,12 +111,44 @@ module _ (ls ks : List Link) (once : T (different (starts ls))) (once' : T (diff
       (λ h. every-i q (starts ks) (λ n m. subst T (e n) (every-at p (starts ls) h (from-start n m))))
       (λ h. every-i p (starts ls) (λ n m. subst T (sym (e n)) (every-at q (starts ks) h (to-start n m))))
 
-  pub close-same : every (closes ls) (starts ls) ≡ every (closes ks) (starts ks)
+  pub close-same : allClose ls ≡ allClose ks
+  unfolding allClose
   close-same =
       each-same (closes ls) (closes ks) (λ v. ap (λ (o : Option (List ℕ)). elim o [ none ↦ false | some points ↦ true ]) (circle-same v))
 
-  pub whole-same : every (has (ringOf ls)) (starts ls) ≡ every (has (ringOf ks)) (starts ks)
-  whole-same = each-same (has (ringOf ls)) (has (ringOf ks)) (λ n. ap (λ ring. has ring n) ring-same)
+  circle-of-same : circleOf ls ≡ circleOf ks
+  unfolding circleOf
+  circle-of-same = ap (λ o. Option·getD o []) (ap (circle ls) (smallest-same (starts ls) (starts ks) to-start from-start)
+      ∙ circle-same (smallest (starts ks)))
+
+  follow-same : (n here : ℕ) → follow n ls here ≡ follow n ks here
+  unfolding follow
+  follow-same zero here = refl
+  follow-same (suc n) here = ap (λ o. onward here (follow n ls) o) (next-same here) ∙ go (next ks here) (follow-same n)
+    where
+      onward : ℕ → (ℕ → List ℕ) → Option ℕ → List ℕ
+      onward here rest o = elim o [ none ↦ here ∷ [] | some there ↦ here ∷ rest there ]
+
+      go : (o : Option ℕ) → ((there : ℕ) → follow n ls there ≡ follow n ks there) → onward here (follow n ls) o ≡ onward here (follow n ks) o
+      go none f = refl
+      go (some there) f = ap (λ ps. here ∷ ps) (f there)
+
+  heads-least : smallest (heads ls) ≡ smallest (heads ks)
+  heads-least =
+      smallest-same (heads ls) (heads ks)
+      (λ n m. let (k, out) = head-e ls m in head-i ks (to-start n k) (λ i. out (from-end n i)))
+      (λ n m. let (k, out) = head-e ks m in head-i ls (from-start n k) (λ i. out (to-end n i)))
+
+  chain-of-same : chainOf ls ≡ chainOf ks
+  unfolding chainOf
+  chain-of-same = rw (heads-least, length-same) (follow-same (length ks) (smallest (heads ks)))
+
+  pub ring-same : cond (allClose ls) (circleOf ls) (chainOf ls) ≡ cond (allClose ks) (circleOf ks) (chainOf ks)
+  ring-same = rw (close-same, circle-of-same, chain-of-same)
+
+  pub whole-same : every (has (cond (allClose ls) (circleOf ls) (chainOf ls))) (starts ls)
+      ≡ every (has (cond (allClose ks) (circleOf ks) (chainOf ks))) (starts ks)
+  whole-same = each-same _ _ (λ n. ap (λ ring. has ring n) ring-same)
 
 -- ---- the order and the arrangement of the rows
 
@@ -181,19 +215,20 @@ module _ (count : ℕ) (patch other : Patch) (e f : ℕ) (apart : e ≡ f → �
         length-map (site' .removed) l,
       )
 
-  same-open : linkOpen (siteOf patch e f) ≡ linkOpen (siteOf other e f)
-  unfolding linkOpen
-  same-open = ap not (close-same ((siteOf patch e f) .links) ((siteOf other e f) .links) once once' to from)
+  -- whether they all close
+  pub same-closed : (siteOf patch e f) .closed ≡ (siteOf other e f) .closed
+  unfolding siteOf
+  same-closed = close-same ((siteOf patch e f) .links) ((siteOf other e f) .links) once once' to from
 
-  same-many : manyCircles (siteOf patch e f) ≡ manyCircles (siteOf other e f)
-  unfolding manyCircles siteOf
-  same-many = ap not (whole-same ((siteOf patch e f) .links) ((siteOf other e f) .links) once once' to from)
+  same-whole : whole (siteOf patch e f) ≡ whole (siteOf other e f)
+  unfolding whole siteOf
+  same-whole = whole-same ((siteOf patch e f) .links) ((siteOf other e f) .links) once once' to from
 
   -- the same answers 10 to 13
-  pub same-tests : ringTests (siteOf patch e f) ≡ ringTests (siteOf other e f)
-  unfolding ringTests
-  same-tests = rw (same-removed, same-open, same-many, same-ring)
+  pub same-tests : (chains : Bool) → ringTests chains (siteOf patch e f) ≡ ringTests chains (siteOf other e f)
+  unfolding ringTests linkOpen manyCircles
+  same-tests chains = rw (same-whole, same-removed, same-closed, same-ring)
 
-  pub same-found : foundOf (siteOf patch e f) ≡ foundOf (siteOf other e f)
+  pub same-found : (chains : Bool) → foundOf chains (siteOf patch e f) ≡ foundOf chains (siteOf other e f)
   unfolding foundOf
-  same-found = rw (same-tests, same-ring)
+  same-found chains = rw (same-tests chains, same-closed, same-ring)

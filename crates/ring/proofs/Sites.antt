@@ -1,44 +1,64 @@
--- Law 10 of an edge in its patch: answers 9 to 12 not given, the removed rows' links are those of the ring, and its points fit.
-use Prim.Native.Nat.{ℕ, _<_, min, max}
-use mathlib.Core.Bool.{Bool, true, false, _&&_, _||_}
+-- Law 10 of an edge in its patch: answers 9 to 12 not given, the removed rows' links are those of the ring or chain, and its points fit.
+use Prim.Native.Nat.{ℕ, zero, suc, _+_, _≤_, _<_, min, max}
+use mathlib.Core.Bool.{Bool, true, false, cond, not, _&&_, _||_}
 use mathlib.Core.List.{List, [], _∷_, List·Memᴰ, List·Memᴰ·head, List·Memᴰ·tail, Memᴰ·of-map}
 use mathlib.Core.Path.{_≡_, refl, sym, _∙_}
+use native.Mathlib.Decide.{decLt}
 use native.Mathlib.Omega.{arith}
 use borrow.Author.Tests.{eqb-false, ne-eqb, ltb-true, not-false}
 use lib.Dec.{T, eqb, ltb, ltb→lt}
-use lib.ListN.{length, length-map}
+use lib.ListN.{length, getD, length-map}
 use Rattle.lists.specs.Lists.{every, has, different}
 use Rattle.lists.proofs.Tests.{and-l, and-r, is-yes}
 use Rattle.lists.proofs.Lists.{every-at}
 use Rattle.lists.proofs.Numbers.{different-head}
+use Rattle.lists.proofs.Places.{in-at}
 use Rattle.mesh.specs.declared.Row.{Row}
 use Rattle.mesh.specs.Mesh.{keepsMeshRule}
 use Rattle.block.specs.Layout.{Patch}
-use Rattle.block.specs.Answers.{firstRefusal, numberOf}
-use Rattle.block.proofs.Refusals.{passed, number-of}
-use Rattle.ring.specs.Ring.{Link, link, closes, starts, minRing, maxRing, ringWith}
-use Rattle.ring.specs.Ring.{Site, siteOf, m, numbersWrong, edgeMissing, linkOpen, manyCircles, lengthWrong, edgeTests}
+use Rattle.block.specs.Answers.{firstRefusal}
+use Rattle.block.proofs.Refusals.{passed, goes-on}
+use Rattle.ring.specs.Ring.{Link, link, allClose, starts, ends, circleOf, chainOf, minRing, maxRing, Site, siteOf, m}
+use Rattle.ring.specs.Ring.{numbersWrong, edgeMissing, whole, ringsAlone, orChains, linkOpen, manyCircles, lengthWrong, edgeTests}
 use Rattle.ring.specs.Found.{ringTests, foundOf, edgeIn}
-use Rattle.ring.proofs.Linking.{links-fit, starts-different}
-use Rattle.ring.proofs.Rounding.{GoesRound, goes-round, ring-walks}
-use Rattle.ring.proofs.Walking.{walks-start}
+use Rattle.ring.proofs.Linking.{LinkFits, links-fit, starts-different, ends-different}
+use Rattle.ring.proofs.Walking.{after}
+use Rattle.ring.proofs.Chains.{open-head}
+use Rattle.ring.proofs.Rounding.{GoesRound, circle-round, chain-round}
 
--- Answers 10, 11 and 12 are not given.
-pub record OneCircle (site : Site) : Type 0 where
+-- Answers 10, 11 and 12 of a call that takes chains too are not given.
+pub record OneRound (site : Site) : Type 0 where
   pub held : edgeMissing site ≡ false
-  pub closed : linkOpen site ≡ false
+  pub taken : linkOpen orChains site ≡ false
   pub whole : manyCircles site ≡ false
 
--- so it is where answers 9 to 12 are not given
-pub tests-passed : (site : Site) (e f : ℕ) → firstRefusal (edgeTests site e f) ≡ 0
-    → (numbersWrong (length (site .points)) (e ∷ f ∷ []) ≡ false) × OneCircle site
+-- so it is where its answers 9 to 12 are not given
+pub tests-passed : (site : Site) (e f : ℕ) → firstRefusal (edgeTests orChains site e f) ≡ 0
+    → (numbersWrong (length (site .points)) (e ∷ f ∷ []) ≡ false) × OneRound site
 unfolding edgeTests
 tests-passed site e f q =
     let (p9, q) = passed 8 _ _ q in
     let (p10, q) = passed 9 _ _ q in
     let (p11, q) = passed 10 _ _ q in
     let (p12, q) = passed 11 _ _ q in
-    (p9, record { held = p10; closed = p11; whole = p12 })
+    (p9, record { held = p10; taken = p11; whole = p12 })
+
+-- where a call that takes rings alone does not give them, the links close, and one that takes chains too does not give them either
+pub closed-passed : (site : Site) (e f : ℕ) → firstRefusal (edgeTests ringsAlone site e f) ≡ 0
+    → (site .closed ≡ true) × (firstRefusal (edgeTests orChains site e f) ≡ 0)
+unfolding edgeTests linkOpen
+closed-passed site e f q =
+    let (p9, q10) = passed 8 _ _ q in
+    let (p10, q11) = passed 9 _ _ q10 in
+    let (p11, q12) = passed 10 _ _ q11 in
+    let (p12, q13) = passed 11 _ _ q12 in
+    let closed : site .closed ≡ true = not-false (site .closed) (not-true-and (site .closed) p11) in
+    let none-open : not (site .closed) && not (whole site) ≡ false = rw closed in
+    (closed, goes-on 9 _ _ p9 ∙ goes-on 10 _ _ p10 ∙ goes-on 11 _ _ none-open ∙ goes-on 12 _ _ p12 ∙ q13)
+  where
+    not-true-and : (b : Bool) → not b && true ≡ false → not b ≡ false
+    not-true-and true h = refl
+    not-true-and false h = h
 
 -- answer 9 not given: both numbers below the count, and different
 pub numbers-right : (count e f : ℕ) → numbersWrong count (e ∷ f ∷ []) ≡ false → (e < count) × (f < count) × (e ≡ f → ⊥)
@@ -60,70 +80,86 @@ pub record PointFits (count a b v : ℕ) : Type 0 where
   pub not-b : b ≡ v → ⊥
 
 module _ (count : ℕ) (patch : Patch) (e f : ℕ) (apart : e ≡ f
-    → ⊥) (rule : T (keepsMeshRule count (patch .rows))) (one : OneCircle (siteOf patch e f)) where
+    → ⊥) (rule : T (keepsMeshRule count (patch .rows))) (one : OneRound (siteOf patch e f)) where
+  abbrev site : Site
+  site = siteOf patch e f
+
   ends-apart : min e f ≡ max e f → ⊥
   ends-apart i = apart (omega arith)
 
-  some-link : 0 < length ((siteOf patch e f) .links)
+  some-link : 0 < length (site .links)
   unfolding siteOf
   some-link =
-      let d = eqb-false (length ((siteOf patch e f) .removed)) 0 (one .held) in
-      omega (arith, length-map ((siteOf patch e f) .removed) (link (min e f) (max e f)))
+      let d = eqb-false (length (site .removed)) 0 (one .held) in
+      omega (arith, length-map (site .removed) (link (min e f) (max e f)))
 
-  close : T (every (closes ((siteOf patch e f) .links)) (starts ((siteOf patch e f) .links)))
-  unfolding linkOpen
-  close = let links = (siteOf patch e f) .links in let t = every (closes links) (starts links) in is-yes t (not-false t (one .closed))
-
-  pub site-goes-round : GoesRound ((siteOf patch e f) .links) ((siteOf patch e f) .ring)
-  unfolding siteOf manyCircles
-  site-goes-round =
-      let site = siteOf patch e f in
-      let t = every (has (site .ring)) (starts (site .links)) in
-      goes-round (site .links) some-link close (starts-different (min e f) (max e f) ends-apart count (patch .rows) rule)
-      (is-yes t (not-false t (one .whole)))
-
-  -- m is the number of removed rows
-  pub site-size : m (siteOf patch e f) ≡ length ((siteOf patch e f) .removed)
+  single : T (different (starts (site .links)))
   unfolding siteOf
-  site-size = site-goes-round .size ∙ length-map ((siteOf patch e f) .removed) (link (min e f) (max e f))
+  single = starts-different (min e f) (max e f) ends-apart count (patch .rows) rule
+
+  single-end : T (different (ends (site .links)))
+  unfolding siteOf
+  single-end = ends-different (min e f) (max e f) ends-apart count (patch .rows) rule
+
+  by-every : T (whole site)
+  unfolding manyCircles
+  by-every = is-yes (whole site) (not-false (whole site) (one .whole))
+
+  pub site-goes-round : GoesRound (site .links) (site .closed) (site .ring)
+  unfolding siteOf whole
+  site-goes-round = go (allClose (site .links)) refl by-every
+    where
+      go : (closed : Bool) → allClose (site .links) ≡ closed
+          → T (every (has (cond closed (circleOf (site .links)) (chainOf (site .links)))) (starts (site .links)))
+          → GoesRound (site .links) closed (cond closed (circleOf (site .links)) (chainOf (site .links)))
+      go true c h = circle-round (site .links) some-link (is-yes _ c) single h
+      go false c h = chain-round (site .links) single single-end (open-head (site .links) single single-end c .1) h
 
   -- a link is a removed row's
-  pub site-link : {l : Link} → List·Memᴰ l ((siteOf patch e f) .links)
-      → (row : Row) × List·Memᴰ row ((siteOf patch e f) .removed) × (link (min e f) (max e f) row ≡ l)
+  pub site-link : {l : Link} → List·Memᴰ l (site .links)
+      → (row : Row) × List·Memᴰ row (site .removed) × (link (min e f) (max e f) row ≡ l)
   unfolding siteOf
-  site-link m = Memᴰ·of-map (link (min e f) (max e f)) ((siteOf patch e f) .removed) m
+  site-link m = Memᴰ·of-map (link (min e f) (max e f)) (site .removed) m
 
-  pub site-point : {v : ℕ} → List·Memᴰ v ((siteOf patch e f) .ring) → PointFits count (min e f) (max e f) v
+  link-points : {l : Link} → List·Memᴰ l (site .links) → LinkFits count (min e f) (max e f) l
   unfolding siteOf
+  link-points k = links-fit (min e f) (max e f) ends-apart count (patch .rows) rule k
+
+  -- each point of the ring or chain is one of a link's
+  pub site-point : {v : ℕ} → List·Memᴰ v (site .ring) → PointFits count (min e f) (max e f) v
   site-point {v} k =
-      let links = (siteOf patch e f) .links in
-      let s = walks-start links _ (ring-walks links some-link close) k in
-      let (l, k, i) = Memᴰ·of-map (λ (l : Link). l .0) links s in
-      let fits = links-fit (min e f) (max e f) ends-apart count (patch .rows) rule k in
-      record { below = rw i at (fits .below-v); not-a = λ j. fits .a-v (j ∙ sym i); not-b = λ j. fits .b-v (j ∙ sym i) }
+      let (i, h, e) = in-at (site .ring) 0 k in
+      go i h e (decLt i (length (site .links)))
+    where
+      round : GoesRound (site .links) (site .closed) (site .ring)
+      round = site-goes-round
+
+      few : length (site .ring) ≤ suc (length (site .links))
+      few = at-most-one-more (site .closed) (round .size)
+        where
+          at-most-one-more : (c : Bool) → length (site .ring) ≡ length (site .links) + cond c 0 1
+              → length (site .ring) ≤ suc (length (site .links))
+          at-most-one-more true q = omega arith
+          at-most-one-more false q = omega arith
+
+      go : (i : ℕ) → i < length (site .ring) → getD (site .ring) i 0 ≡ v → Dec (i < length (site .links))
+          → PointFits count (min e f) (max e f) v
+      go i h q (yes s) =
+          let fits = link-points (round .linked i s) in
+          record { below = rw q at (fits .below-v); not-a = λ j. fits .a-v (j ∙ sym q); not-b = λ j. fits .b-v (j ∙ sym q) }
+      go zero h q (no s) = absurd (s some-link)
+      go (suc i) h q (no s) =
+          let on : after (site .ring) i ≡ v = rw (ne-eqb (suc i) (length (site .ring)) (λ q. omega arith)) q in
+          let fits = link-points (round .linked i (omega (arith, few))) in
+          record { below = rw on at (fits .below-w); not-a = λ j. fits .a-w (j ∙ sym on); not-b = λ j. fits .b-w (j ∙ sym on) }
 
 -- ---- what is found, for the calls that ask for it
 
 -- it does not turn on where the points are
-pub found-rows : (patch : Patch) (e f : ℕ) → foundOf (siteOf patch e f) ≡ foundOf (edgeIn (patch .rows) e f)
-unfolding foundOf ringTests linkOpen manyCircles siteOf
-found-rows patch e f = refl
-
--- its number is that of the first test that is true
-pub found-number : (site : Site) → numberOf ((foundOf site) .answer) ≡ firstRefusal (ringTests site)
-unfolding foundOf
-found-number site = number-of (firstRefusal (ringTests site))
-
--- with answer 0 the links make one ring of 3 to 10 points, and it is given
-pub found-done : (site : Site) → firstRefusal (ringTests site) ≡ 0
-    → OneCircle site × (lengthWrong site ≡ false) × ((foundOf site) .ring ≡ ringWith (site .ring))
-unfolding ringTests foundOf
-found-done site q =
-    let (p10, q11) = passed 9 _ _ q in
-    let (p11, q12) = passed 10 _ _ q11 in
-    let (p12, q13) = passed 11 _ _ q12 in
-    let (p13, rest) = passed 12 _ _ q13 in
-    (record { held = p10; closed = p11; whole = p12 }, p13, rw q)
+pub found-rows : (chains : Bool) (patch : Patch) (e f : ℕ)
+    → foundOf chains (siteOf patch e f) ≡ foundOf chains (edgeIn (patch .rows) e f)
+unfolding foundOf ringTests linkOpen manyCircles whole siteOf
+found-rows chains patch e f = refl
 
 -- a ring of a wrong length is no ring of three, so the 3-2 flip refuses it with the same number
 pub wrong-not-three : (site : Site) → lengthWrong site ≡ true → eqb (m site) minRing ≡ false

@@ -8,7 +8,7 @@ use native.Mathlib.Omega.{arith}
 use borrow.Author.Tests.{eq-eqb, ne-eqb}
 use lib.ListN.{length, take, set}
 use lib.Seq.{take-suc-set}
-use Rattle.ring.specs.Ring.{Link, next, walk, circle}
+use Rattle.ring.specs.Ring.{Link, next, walk, circle, follow}
 
 -- the points so far, and then the circle's others, if it closes
 abbrev pub onto : List ℕ → Option (List ℕ) → Option (List ℕ)
@@ -74,3 +74,26 @@ module _ (links : List Link) (start n m : ℕ) (v : List ℕ) (here : ℕ)
   pub walk-spent : n ≤ m → none ≡ circle links start
   unfolding walk
   walk-spent h = let e : n - m ≡ 0 = omega arith in sym (so-far ∙ rw e)
+
+-- The same of following the links.
+module _ (links : List Link) (start n m : ℕ) (v : List ℕ) (here : ℕ)
+    (so-far : follow n links start ≡ take m v ++ follow (n - m) links here) (room : m < length v) where
+  kept : take (m + 1) (set v m here) ≡ take m v ++ here ∷ []
+  kept = rw add-one (take-suc-set v m here room)
+
+  pub follow-goes : m < n → {there : ℕ} → next links here ≡ some there
+      → follow n links start ≡ take (m + 1) (set v m here) ++ follow (n - (m + 1)) links there
+  unfolding follow
+  follow-goes left {there} e =
+      let one-less : n - m ≡ suc (n - (m + 1)) = omega arith in
+      so-far ∙ rw (one-less, e, follow, kept) (sym (append-assoc (take m v) (here ∷ []) (follow (n - (m + 1)) links there)))
+
+  pub follow-ends : m < n → next links here ≡ none → take (m + 1) (set v m here) ≡ follow n links start
+  unfolding follow
+  follow-ends left e =
+      let one-less : n - m ≡ suc (n - (m + 1)) = omega arith in
+      sym (so-far ∙ rw (one-less, e, follow, kept))
+
+  pub follow-spent : n ≤ m → take (m + 1) (set v m here) ≡ follow n links start
+  unfolding follow
+  follow-spent h = let e : n - m ≡ 0 = omega arith in sym (so-far ∙ rw (e, kept))

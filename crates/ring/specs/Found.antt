@@ -1,51 +1,59 @@
 -- What finding the ring round an edge gives, and what the arrays of the walk hold.
 use Prim.Native.Nat.{ℕ, _*_, _≤_, _<_}
-use mathlib.Core.Bool.{cond}
-use mathlib.Core.List.{List, [], _∷_, map}
+use mathlib.Core.Bool.{Bool, false, cond, _&&_, _||_}
+use mathlib.Core.List.{List, [], _∷_, map, List·Memᴰ}
 use mathlib.Core.Option.{Option, none, some}
 use mathlib.Core.Path.{_≡_}
-use lib.Dec.{T, eqb}
+use lib.Dec.{T, eqb, ltb}
 use lib.ListN.{length, getD, take}
 use Rattle.lists.specs.Lists.{those, numbersFrom}
 use Rattle.mesh.specs.declared.Row.{Row}
 use Rattle.mesh.specs.Mesh.{rowSize, rowsIn, numbersFit, keepsMeshRule, holdsEdge}
 use Rattle.block.specs.Layout.{maxRows}
 use Rattle.block.specs.Answers.{Tests, firstRefusal, answerOf}
-use Rattle.block.specs.declared.Answer.the-variants.{Refused}
+use Rattle.block.specs.declared.Answer.the-variants.{Done, Refused}
 use Rattle.ring.specs.declared.Found.{Found}
 use Rattle.ring.specs.declared.Links.{Links}
-use Rattle.ring.specs.declared.Circle.{Circle}
-use Rattle.ring.specs.Ring.{Link, link, Site, siteOf, edgeMissing, linkOpen, manyCircles, lengthWrong, ringWith}
+use Rattle.ring.specs.declared.Trail.{Trail}
+use Rattle.ring.specs.Ring.{Link, link, starts, smallest, heads, Site, siteOf, minRing, maxRing, ringWith}
+use Rattle.ring.specs.Ring.{edgeMissing, linkOpen, manyCircles, lengthWrong}
 
 -- ---- the ring or its refusal
 
--- 10 to 13, tested from the top
-unfoldable pub ringTests : Site → Tests
-ringTests site = (10, edgeMissing site) ∷ (11, linkOpen site) ∷ (12, manyCircles site) ∷ (13, lengthWrong site) ∷ []
+-- 10 to 13, tested from the top, by what the call takes
+unfoldable pub ringTests : Bool → Site → Tests
+ringTests chains site =
+    (10, edgeMissing site) ∷ (11, linkOpen chains site) ∷ (12, manyCircles site) ∷ (13, lengthWrong site) ∷ []
+
+-- an answer and, with answer 0, whether the ring is closed, and the ring
+abbrev pub foundWith : ℕ → Site → Found
+foundWith answer site =
+    let done = eqb answer 0 in
+    record { answer = answerOf answer; closed = done && site .closed; ring = ringWith (cond done (site .ring) []) }
 
 -- the answer and the ring; a refusal returns its number and nothing else
-unfoldable pub foundOf : Site → Found
-foundOf site =
-    let answer = firstRefusal (ringTests site) in
-    record { answer = answerOf answer; ring = ringWith (cond (eqb answer 0) (site .ring) []) }
+unfoldable pub foundOf : Bool → Site → Found
+foundOf chains site = foundWith (firstRefusal (ringTests chains site)) site
 
 -- a refusal returns its number and nothing else
 abbrev pub refusedWith : ℕ → Found
-refusedWith number = record { answer = Refused number; ring = ringWith [] }
+refusedWith number = record { answer = Refused number; closed = false; ring = ringWith [] }
 
 -- the edge in a table of rows: no answer from 10 to 13 turns on where the points are
 abbrev pub edgeIn : List Row → ℕ → ℕ → Site
 edgeIn rows a b = siteOf (record { points = []; rows = rows }) a b
+
+-- the ring or chain that a walk went by, if it has 3 to 10 points
+unfoldable pub sizedOf : Bool → List ℕ → Found
+sizedOf closed points =
+    cond (ltb (length points) minRing || ltb maxRing (length points)) (refusedWith 13)
+    (record { answer = Done; closed = closed; ring = ringWith points })
 
 -- ---- what the code keeps
 
 -- the links of the rows that hold both ends
 abbrev pub linksOf : ℕ → ℕ → List Row → List Link
 linksOf a b rows = map (link a b) (those (holdsEdge a b) rows)
-
--- the points to which links go
-abbrev pub ends : List Link → List ℕ
-ends links = map (λ l. l .1) links
 
 -- what follows b in the face x, y, z, turned round to begin with b
 abbrev pub following : ℕ → ℕ → ℕ → ℕ → Link
@@ -70,6 +78,19 @@ pub record Table (table : List ℕ) (n a b : ℕ) : Type 0 where
 unfoldable pub linksIn : Links → List Link
 linksIn links = map (λ i. (getD (links .starts) i 0, getD (links .ends) i 0)) (numbersFrom 0 (links .n))
 
+-- where the link at place i goes to, if there is such a link
+abbrev pub linkAt : Links → ℕ → Option ℕ
+linkAt links i = cond (ltb i (links .n)) (some (getD (links .ends) i 0)) none
+
+-- the points that a walk went by
+abbrev pub wentBy : Trail → List ℕ
+wentBy trail = take (trail .m) (trail .v)
+
 -- the closed circle that a walk went, if it closed
-abbrev pub walked : Circle → Option (List ℕ)
-walked circle = cond (circle .closed) (some (take (circle .m) (circle .v))) none
+abbrev pub walked : Trail → Option (List ℕ)
+walked trail = cond (trail .closed) (some (wentBy trail)) none
+
+-- some point to which no link comes; if each is entered, the smallest
+pub record StartsAt (links : List Link) (v : ℕ) : Type 0 where
+  pub entered : (heads links ≡ []) → v ≡ smallest (starts links)
+  pub head : (heads links ≡ [] → ⊥) → List·Memᴰ v (heads links)

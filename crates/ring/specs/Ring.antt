@@ -1,20 +1,22 @@
--- Document 01, "Ring and replacement" as far as the ring, and answers 9 to 13.
-use Prim.Native.Nat.{ℕ, zero, suc, min, max}
+-- Document 01, "Ring and replacement" as far as the ring, with document 02's open chain, and answers 9 to 13 and 19.
+use Prim.Native.Nat.{ℕ, zero, suc, _-_, min, max}
 use mathlib.Core.Bool.{Bool, true, false, cond, not, _&&_, _||_}
 use mathlib.Core.List.{List, [], _∷_, map, foldr}
 use mathlib.Core.Option.{Option, none, some, Option·getD}
 use lib.Dec.{eqb, ltb}
-use lib.ListN.{length}
+use lib.IntN.{pos}
+use lib.ListN.{length, getD}
 use Rattle.lists.specs.Lists.{every, those, has, different}
 use Rattle.measure.specs.declared.Point.{Point}
+use Rattle.measure.specs.Measure.{D, sameZ}
 use Rattle.mesh.specs.declared.Row.{Row}
-use Rattle.mesh.specs.Mesh.{holdsEdge}
+use Rattle.mesh.specs.Mesh.{holdsEdge, place}
 use Rattle.mesh.specs.Tetrahedra.{arrangedFrom}
 use Rattle.block.specs.Layout.{Patch, filled}
 use Rattle.block.specs.Answers.{Tests}
 use Rattle.ring.specs.declared.Ring.{Ring}
 
--- ---- links and circles
+-- ---- links
 
 -- A link v to w.
 abbrev pub Link : Type 0
@@ -28,6 +30,16 @@ link a b row = let t = arrangedFrom a b row in (t .r, t .s)
 unfoldable pub next : List Link → ℕ → Option ℕ
 next [] v = none
 next (l ∷ ls) v = let rest = next ls v in cond (eqb (l .0) v) (some (l .1)) rest
+
+-- the points from which links go
+abbrev pub starts : List Link → List ℕ
+starts links = map (λ l. l .0) links
+
+-- the points to which links go
+abbrev pub ends : List Link → List ℕ
+ends links = map (λ l. l .1) links
+
+-- ---- circles
 
 -- the walk round the edge, at most so many steps of it: it ends at the first missing link, with nothing,
 -- or when it is back at its start, with the points of a closed circle
@@ -49,9 +61,9 @@ circle links v = walk (length links) links v v
 abbrev pub closes : List Link → ℕ → Bool
 closes links v = elim (circle links v) [ none ↦ false | some points ↦ true ]
 
--- the points from which links go
-abbrev pub starts : List Link → List ℕ
-starts links = map (λ l. l .0) links
+-- the links all close
+unfoldable pub allClose : List Link → Bool
+allClose links = every (closes links) (starts links)
 
 -- the smallest of some numbers
 unfoldable pub smallest : List ℕ → ℕ
@@ -59,12 +71,29 @@ smallest [] = 0
 smallest (n ∷ ns) = foldr min n ns
 
 -- the ring starts at its smallest point number, v1, and follows the links to vm
-unfoldable pub ringOf : List Link → List ℕ
-ringOf links = Option·getD (circle links (smallest (starts links))) []
+unfoldable pub circleOf : List Link → List ℕ
+circleOf links = Option·getD (circle links (smallest (starts links))) []
+
+-- ---- chains
+
+-- the points from which a link goes and to which none comes
+unfoldable pub heads : List Link → List ℕ
+heads links = those (λ v. not (has (ends links) v)) (starts links)
+
+-- the points along the links from here on, at most so many steps of it, up to the first from which no link goes
+unfoldable pub follow : ℕ → List Link → ℕ → List ℕ
+follow zero links here = here ∷ []
+follow (suc steps) links here = elim (next links here) [ none ↦ here ∷ [] | some there ↦ here ∷ follow steps links there ]
+
+-- the chain keeps its own start and end: v1 is the point that no link enters, also when it is not the smallest, and the links lead
+-- to vm; of several such points it is the smallest, and then the links make no single chain
+unfoldable pub chainOf : List Link → List ℕ
+chainOf links = follow (length links) links (smallest (heads links))
 
 -- ---- the edge in its patch
 
--- The ends in order, a < b; the rows that go and the rows kept, each in order; the links; the ring v1..vm.
+-- The ends in order, a < b; the rows that go and the rows kept, each in order; the links; whether they all close; and v1..vm, the ring
+-- if they do and otherwise the chain.
 pub record Site : Type 0 where
   pub points : List Point
   pub a : ℕ
@@ -72,6 +101,7 @@ pub record Site : Type 0 where
   pub removed : List Row
   pub kept : List Row
   pub links : List Link
+  pub closed : Bool
   pub ring : List ℕ
 
 -- the edge's two ends are put in order, a < b; either order given has the same answer
@@ -82,13 +112,31 @@ siteOf patch e f =
     let removed = those (holdsEdge a b) (patch .rows) in
     let kept = those (λ row. not (holdsEdge a b row)) (patch .rows) in
     let links = map (link a b) removed in
-    record { points = patch .points; a = a; b = b; removed = removed; kept = kept; links = links; ring = ringOf links }
+    let closed = allClose links in
+    record {
+      points = patch .points;
+      a = a;
+      b = b;
+      removed = removed;
+      kept = kept;
+      links = links;
+      closed = closed;
+      ring = cond closed (circleOf links) (chainOf links);
+    }
 
--- m is the length of the ring
+-- m is the length of the ring, or of the chain, in points
 abbrev pub m : Site → ℕ
 m site = length (site .ring)
 
--- ---- answers 9 to 13: what each is given for
+-- D(a,b,v1,vm) is 0, and nothing more
+unfoldable pub flat : Site → Bool
+flat site =
+    let at = place (site .points) in
+    let v1 = getD (site .ring) 0 0 in
+    let vm = getD (site .ring) (m site - 1) 0 in
+    sameZ (D (at (site .a)) (at (site .b)) (at v1) (at vm)) (pos 0)
+
+-- ---- answers 9 to 13 and 19: what each is given for
 
 -- the smallest m
 abbrev pub minRing : ℕ
@@ -106,28 +154,43 @@ numbersWrong count ns = not (every (λ n. ltb n count) ns && different ns)
 abbrev pub edgeMissing : Site → Bool
 edgeMissing site = eqb (length (site .removed)) 0
 
--- 11: the links do not all close
-unfoldable pub linkOpen : Site → Bool
-linkOpen site = not (every (closes (site .links)) (starts (site .links)))
+-- the ring, or the chain, goes by every link
+unfoldable pub whole : Site → Bool
+whole site = every (has (site .ring)) (starts (site .links))
+
+-- what a call takes: a closed ring alone, or an open chain too
+abbrev pub ringsAlone : Bool
+ringsAlone = false
+
+abbrev pub orChains : Bool
+orChains = true
+
+-- 11: the links do not all close; where chains are taken too, it is given for any other open case than exactly one chain
+unfoldable pub linkOpen : Bool → Site → Bool
+linkOpen chains site = not (site .closed) && not (chains && whole site)
 
 -- 12: more than one closed circle, so some link is not on the ring
 unfoldable pub manyCircles : Site → Bool
-manyCircles site = not (every (has (site .ring)) (starts (site .links)))
+manyCircles site = not (whole site)
 
 -- 13: m below 3 or over 10
 abbrev pub lengthWrong : Site → Bool
 lengthWrong site = ltb (m site) minRing || ltb maxRing (m site)
 
--- 9 to 12, which every call on an edge shares
-unfoldable pub edgeTests : Site → ℕ → ℕ → Tests
-edgeTests site e f =
+-- 19: the chain is not flat
+abbrev pub notFlat : Site → Bool
+notFlat site = not (site .closed || flat site)
+
+-- 9 to 12 of a call on an edge, by what it takes
+unfoldable pub edgeTests : Bool → Site → ℕ → ℕ → Tests
+edgeTests chains site e f =
     (9, numbersWrong (length (site .points)) (e ∷ f ∷ []))
     ∷ (10, edgeMissing site)
-    ∷ (11, linkOpen site)
+    ∷ (11, linkOpen chains site)
     ∷ (12, manyCircles site) ∷ []
 
 -- ---- the ring as a type
 
--- the ring of some points, of which there are at most 10
+-- the ring, or the chain, of some points, of which there are at most 10
 abbrev pub ringWith : List ℕ → Ring
 ringWith points = record { m = length points; v = filled maxRing points }

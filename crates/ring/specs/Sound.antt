@@ -1,6 +1,6 @@
 -- Document 01, "Ring and replacement": what a patch that opens and an edge without answers 9 to 12 give, as statements.
-use Prim.Native.Nat.{ℕ, suc, _<_}
-use mathlib.Core.Bool.{not}
+use Prim.Native.Nat.{ℕ, suc, _+_, _<_}
+use mathlib.Core.Bool.{true, cond, not}
 use mathlib.Core.List.{List, map, List·Memᴰ}
 use mathlib.Core.Path.{_≡_}
 use lib.Dec.{T}
@@ -30,7 +30,8 @@ pub record SoundChain (site : Site) : Type 0 where
   pub steps : (i : ℕ) → suc i < m site → List·Memᴰ (pointAfter site i, pointAfter site (suc i)) (site .links)
   pub different : (i j : ℕ) → i < m site → j < m site → pointAfter site i ≡ pointAfter site j → i ≡ j
 
--- One closed circle of links is a ring: vm has a link to v1.
+-- One closed circle of links is a ring: vm has a link to v1. One open chain has no such link; it has a row less than points.
 pub record SoundRing (site : Site) : Type 0 where
   pub chain : SoundChain site
-  pub closed : (i : ℕ) → suc i ≡ m site → List·Memᴰ (pointAfter site i, pointAfter site 0) (site .links)
+  pub closing : site .closed ≡ true → (i : ℕ) → suc i ≡ m site → List·Memᴰ (pointAfter site i, pointAfter site 0) (site .links)
+  pub size : length (site .removed) + cond (site .closed) 0 1 ≡ m site

@@ -1,13 +1,15 @@
-// The ring round an edge.
+// The ring round an edge, or the open chain.
 ghost use mathlib.Core.Path.{_≡_};
 ghost use mathlib.Core.List.{[], _∷_, _++_};
 ghost use Prim.Native.Nat.{_+_, _<_, _≤_};
 ghost use lib.ListN.{length, take};
-ghost use Rattle.lists.specs.Lists.{every, has};
+ghost use mathlib.Core.Bool.{false};
+ghost use Rattle.lists.specs.Lists.{has};
 ghost use Rattle.mesh.specs.Mesh.{rowsIn};
 ghost use Rattle.block.specs.Layout.{maxRows};
-ghost use Rattle.ring.specs.Ring.{link, circle, starts, smallest, maxRing, ringWith};
-ghost use Rattle.ring.specs.Found.{refusedWith, foundOf, edgeIn, linksOf, ends, following, linksIn, walked, LinkedRow, Table};
+ghost use Rattle.ring.specs.Ring.{link, next, circle, starts, ends, smallest, follow, maxRing, ringWith};
+ghost use Rattle.ring.specs.Found.{refusedWith, sizedOf, foundOf, edgeIn, linksOf, following};
+ghost use Rattle.ring.specs.Found.{linksIn, linkAt, wentBy, walked, StartsAt, LinkedRow, Table};
 use block::Answer;
 use block::MAX_ROWS;
 use mesh::Row;
@@ -17,15 +19,19 @@ const MIN_RING: usize = 3;
 
 pub const MAX_RING: usize = 10;
 
-// The ring: m points, v1 to vm from place 0 on; the places after them are zero.
+// The most points that a walk goes by: a chain has a point more than links.
+const MOST_POINTS: usize = MAX_ROWS + 1;
+
+// The ring, or the chain: m points, v1 to vm from place 0 on; the places after them are zero.
 pub struct Ring {
     pub m: u8,
     pub v: [u8; MAX_RING],
 }
 
-// What finding gives: the answer and, if it is done, the ring; with a refusal the ring has no points.
+// What finding gives: the answer and, if it is done, whether the links close, and the ring or the chain; with a refusal it has no points.
 pub struct Found {
     pub answer: Answer,
+    pub closed: bool,
     pub ring: Ring,
 }
 
@@ -42,11 +48,11 @@ struct Links {
     ends: [u8; MAX_ROWS],
 }
 
-// A walk: whether it came back to its start, and then the m points that it went by.
-struct Circle {
+// A walk: whether it came back to its start, and the m points that it went by.
+struct Trail {
     closed: bool,
     m: usize,
-    v: [u8; MAX_ROWS],
+    v: [u8; MOST_POINTS],
 }
 
 // ---- the links
@@ -113,32 +119,19 @@ fn gather(table: &[u8], n: usize, a: u8, b: u8) -> Links
     links
 }
 
-// ---- the ring
+// ---- the ring or the chain
 
-// A link goes from v.
-fn starts_link(links: Links, v: u8) -> bool
+// A link comes to v.
+fn enters(links: Links, v: u8) -> bool
     requires { ⌜ links .n ≤ maxRows ⌝ }
-    ensures { λ r. ⌜ r ≡ has (starts (linksIn links)) v ⌝ }
+    ensures { λ r. ⌜ r ≡ has (ends (linksIn links)) v ⌝ }
 {
     for i in 0..links.n {
-        if v == links.starts[i] {
+        if v == links.ends[i] {
             return true;
         }
     }
     false
-}
-
-// From the end of each link a link goes on.
-fn ends_start(links: Links) -> bool
-    requires { ⌜ links .n ≤ maxRows ⌝ }
-    ensures { λ r. ⌜ r ≡ every (has (starts (linksIn links))) (ends (linksIn links)) ⌝ }
-{
-    for i in 0..links.n {
-        if !starts_link(links, links.ends[i]) {
-            return false;
-        }
-    }
-    true
 }
 
 // The smallest point from which a link goes; there is a link.
@@ -155,42 +148,73 @@ fn smallest_start(links: Links) -> u8
     least
 }
 
-// The walk from a point along the links: it ends at the first missing link, or when it is back at its start.
-fn walk(links: Links, start: u8) -> Circle
+// The first point from which a link goes and to which none comes; if each is entered, the smallest. There is a link.
+fn first_point(links: Links) -> u8
+    requires { ⌜ (0 < links .n) × (links .n ≤ maxRows) ⌝ }
+    ensures { λ r. ⌜ StartsAt (linksIn links) r ⌝ }
+{
+    for i in 0..links.n {
+        let v = links.starts[i];
+        if !enters(links, v) {
+            return v;
+        }
+    }
+    smallest_start(links)
+}
+
+// The place of the link that goes from v; n, if none does.
+fn link_from(links: Links, v: u8) -> usize
     requires { ⌜ links .n ≤ maxRows ⌝ }
-    ensures { λ r. ⌜ (r .m ≤ length (r .v)) × (walked r ≡ circle (linksIn links) start) ⌝ }
+    ensures { λ r. ⌜ (r ≤ links .n) × (next (linksIn links) v ≡ linkAt links r) ⌝ }
+{
+    for i in 0..links.n {
+        if v == links.starts[i] {
+            return i;
+        }
+    }
+    links.n
+}
+
+// The walk from a point along the links: it ends at the first missing link, or when it is back at its start.
+fn walk(links: Links, start: u8) -> Trail
+    requires { ⌜ links .n ≤ maxRows ⌝ }
+    ensures { λ r. ⌜ (r .m ≤ length (r .v)) × (walked r ≡ circle (linksIn links) start)
+        × (r .closed ≡ false → wentBy r ≡ follow (links .n) (linksIn links) start) ⌝ }
 {
     let n = links.n;
-    let mut v = [0; MAX_ROWS];
+    let mut v = [0; MOST_POINTS];
     let mut here = start;
     let mut m: usize = 0;
-    'walk: while m < n {
-        for i in 0..n {
-            if here == links.starts[i] {
-                v[m] = here;
-                m += 1;
-                here = links.ends[i];
-                if here == start {
-                    return Circle {
-                        closed: true,
-                        m: m,
-                        v: v,
-                    };
-                }
-                continue 'walk;
-            }
+    while m < n {
+        v[m] = here;
+        m += 1;
+        let at = link_from(links, here);
+        if at == n {
+            return Trail {
+                closed: false,
+                m: m,
+                v: v,
+            };
         }
-        break 'walk;
+        here = links.ends[at];
+        if here == start {
+            return Trail {
+                closed: true,
+                m: m,
+                v: v,
+            };
+        }
     }
-    Circle {
+    v[m] = here;
+    Trail {
         closed: false,
-        m: 0,
+        m: m + 1,
         v: v,
     }
 }
 
 // The ring of the first m points.
-fn ring_of(v: [u8; MAX_ROWS], m: usize) -> Ring
+fn ring_of(v: [u8; MOST_POINTS], m: usize) -> Ring
     requires { ⌜ m ≤ maxRing ⌝ }
     ensures { λ r. ⌜ r ≡ ringWith (take m v) ⌝ }
 {
@@ -210,6 +234,7 @@ fn refused(number: u8) -> Found
 {
     Found {
         answer: Answer::Refused(number),
+        closed: false,
         ring: Ring {
             m: 0,
             v: [0; MAX_RING],
@@ -217,34 +242,46 @@ fn refused(number: u8) -> Found
     }
 }
 
-// The ring round the edge a, b in the first n rows of a table, or the refusal: 10, 11, 12 or 13.
-pub fn find(table: &[u8], n: usize, a: u8, b: u8) -> Found
+// The ring or the chain of the points that a walk went by, or 13.
+fn sized(trail: Trail) -> Found
+    requires { ⌜ trail .m ≤ length (trail .v) ⌝ }
+    ensures { λ r. ⌜ r ≡ sizedOf (trail .closed) (wentBy trail) ⌝ }
+{
+    if trail.m < MIN_RING {
+        return refused(13);
+    }
+    if MAX_RING < trail.m {
+        return refused(13);
+    }
+    let v = trail.v;
+    Found {
+        answer: Answer::Done,
+        closed: trail.closed,
+        ring: ring_of(v, trail.m),
+    }
+}
+
+// The ring round the edge a, b in the first n rows of a table, or, where chains are taken, the open chain; or the refusal: 10, 11, 12 or 13.
+pub fn find(table: &[u8], n: usize, a: u8, b: u8, chains: bool) -> Found
     requires { ⌜ Table (now table) n a b ⌝ }
-    ensures { λ r. ⌜ r ≡ foundOf (edgeIn (rowsIn (now (table .entry)) n) a b) ⌝ }
+    ensures { λ r. ⌜ r ≡ foundOf chains (edgeIn (rowsIn (now (table .entry)) n) a b) ⌝ }
 {
     let links = gather(table, n, a, b);
     if links.n == 0 {
         return refused(10);
     }
-    let circle = walk(links, smallest_start(links));
-    if !circle.closed {
+    let trail = walk(links, first_point(links));
+    if trail.closed {
+        if trail.m < links.n {
+            return refused(12);
+        }
+        return sized(trail);
+    }
+    if !chains {
         return refused(11);
     }
-    if circle.m < links.n {
-        if !ends_start(links) {
-            return refused(11);
-        }
-        return refused(12);
+    if trail.m <= links.n {
+        return refused(11);
     }
-    if circle.m < MIN_RING {
-        return refused(13);
-    }
-    if MAX_RING < circle.m {
-        return refused(13);
-    }
-    let v = circle.v;
-    Found {
-        answer: Answer::Done,
-        ring: ring_of(v, circle.m),
-    }
+    sized(trail)
 }

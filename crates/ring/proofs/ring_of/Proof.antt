@@ -45,7 +45,7 @@ loop-less c = omega arith
 loop-again : tie.Need-loop-again Inv-loop μ-loop
 loop-again c =
     let at = c .before in
-    let l : length (at .before .args .t1) ≡ 60 = search needs in (
+    let l : length (at .before .args .t1) ≡ 61 = search needs in (
       omega arith,
       ap (λ r. set r (at .loop .i) (getD (at .before .args .t1) (at .loop .i) 0)) (at .loop .inv .1)
           ∙ copied (at .before .args .t1) (at .loop .i) (omega arith) (omega arith),
@@ -57,7 +57,7 @@ cast-t12 c = omega arith
 returns : tie.Need-returns Inv-loop μ-loop
 returns c =
     let at = c .before in
-    let l : length (at .before .args .t1) ≡ 60 = search needs in
+    let l : length (at .before .args .t1) ≡ 61 = search needs in
     let n = length-take-le (at .before .args .m) (at .before .args .t1) (omega arith) in
     let i : at .loop .i ≡ at .before .args .m = omega arith in
     rw (at .loop .inv .1, i, n)

@@ -10,7 +10,7 @@ use Rattle.lists.proofs.Places.{at-in, in-at}
 use Rattle.ring.specs.Ring.{starts}
 use Rattle.ring.specs.Found.{linksIn}
 use Rattle.ring.proofs.Arrays.{starts-length, starts-at}
-use Rattle.ring.proofs.Rounding.{smallest-is}
+use Rattle.ring.proofs.Smallest.{smallest-is}
 use Rattle.ring.proofs.smallest_start.Statement.{statement}
 use Rattle.ring.proofs.smallest_start.Tie as tie
 
