@@ -88,11 +88,13 @@ module _ (links : List Link) (start n m : ℕ) (v : List ℕ) (here : ℕ)
       let one-less : n - m ≡ suc (n - (m + 1)) = omega arith in
       so-far ∙ rw (one-less, e, follow, kept) (sym (append-assoc (take m v) (here ∷ []) (follow (n - (m + 1)) links there)))
 
-  pub follow-ends : m < n → next links here ≡ none → take (m + 1) (set v m here) ≡ follow n links start
+  pub follow-ends : next links here ≡ none → take (m + 1) (set v m here) ≡ follow n links start
   unfolding follow
-  follow-ends left e =
-      let one-less : n - m ≡ suc (n - (m + 1)) = omega arith in
-      sym (so-far ∙ rw (one-less, e, follow, kept))
+  follow-ends e = sym (so-far ∙ rw (follow-none (n - m), kept))
+    where
+      follow-none : (k : ℕ) → follow k links here ≡ here ∷ []
+      follow-none zero = refl
+      follow-none (suc k) = rw (e, follow)
 
   pub follow-spent : n ≤ m → take (m + 1) (set v m here) ≡ follow n links start
   unfolding follow

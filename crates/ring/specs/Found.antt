@@ -78,10 +78,6 @@ pub record Table (table : List ℕ) (n a b : ℕ) : Type 0 where
 unfoldable pub linksIn : Links → List Link
 linksIn links = map (λ i. (getD (links .starts) i 0, getD (links .ends) i 0)) (numbersFrom 0 (links .n))
 
--- where the link at place i goes to, if there is such a link
-abbrev pub linkAt : Links → ℕ → Option ℕ
-linkAt links i = cond (ltb i (links .n)) (some (getD (links .ends) i 0)) none
-
 -- the points that a walk went by
 abbrev pub wentBy : Trail → List ℕ
 wentBy trail = take (trail .m) (trail .v)

@@ -7,9 +7,9 @@ ghost use mathlib.Core.Bool.{false};
 ghost use Rattle.lists.specs.Lists.{has};
 ghost use Rattle.mesh.specs.Mesh.{rowsIn};
 ghost use Rattle.block.specs.Layout.{maxRows};
-ghost use Rattle.ring.specs.Ring.{link, next, circle, starts, ends, smallest, follow, maxRing, ringWith};
+ghost use Rattle.ring.specs.Ring.{link, circle, starts, ends, smallest, follow, maxRing, ringWith};
 ghost use Rattle.ring.specs.Found.{refusedWith, sizedOf, foundOf, edgeIn, linksOf, following};
-ghost use Rattle.ring.specs.Found.{linksIn, linkAt, wentBy, walked, StartsAt, LinkedRow, Table};
+ghost use Rattle.ring.specs.Found.{linksIn, wentBy, walked, StartsAt, LinkedRow, Table};
 use block::Answer;
 use block::MAX_ROWS;
 use mesh::Row;
@@ -162,19 +162,6 @@ fn first_point(links: Links) -> u8
     smallest_start(links)
 }
 
-// The place of the link that goes from v; n, if none does.
-fn link_from(links: Links, v: u8) -> usize
-    requires { ⌜ links .n ≤ maxRows ⌝ }
-    ensures { λ r. ⌜ (r ≤ links .n) × (next (linksIn links) v ≡ linkAt links r) ⌝ }
-{
-    for i in 0..links.n {
-        if v == links.starts[i] {
-            return i;
-        }
-    }
-    links.n
-}
-
 // The walk from a point along the links: it ends at the first missing link, or when it is back at its start.
 fn walk(links: Links, start: u8) -> Trail
     requires { ⌜ links .n ≤ maxRows ⌝ }
@@ -185,25 +172,23 @@ fn walk(links: Links, start: u8) -> Trail
     let mut v = [0; MOST_POINTS];
     let mut here = start;
     let mut m: usize = 0;
-    while m < n {
-        v[m] = here;
-        m += 1;
-        let at = link_from(links, here);
-        if at == n {
-            return Trail {
-                closed: false,
-                m: m,
-                v: v,
-            };
+    'walk: while m < n {
+        for i in 0..n {
+            if here == links.starts[i] {
+                v[m] = here;
+                m += 1;
+                here = links.ends[i];
+                if here == start {
+                    return Trail {
+                        closed: true,
+                        m: m,
+                        v: v,
+                    };
+                }
+                continue 'walk;
+            }
         }
-        here = links.ends[at];
-        if here == start {
-            return Trail {
-                closed: true,
-                m: m,
-                v: v,
-            };
-        }
+        break 'walk;
     }
     v[m] = here;
     Trail {

@@ -1,122 +1,170 @@
--- `walk` takes the steps of the definitions: the points so far, and then the walk that is left, are the circle; the points so far, and
--- then those that follow, are the chain.
-use Prim.Native.Nat.{ℕ, _≤_, _-_}
-use mathlib.Core.List.{_++_}
+-- `walk` takes the steps of the definitions: the points so far, and then the walk that is left, are the circle; the points so far,
+-- and then those that follow, are the chain.
+-- The inner loop has passed only links that do not start here, so the step goes by those that are left.
+use Prim.Native.Nat.{ℕ, _+_, _≤_, _-_}
+use mathlib.Core.List.{List, _++_}
+use mathlib.Core.Logic.{⊎-elim}
 use mathlib.Core.Option.{none, some}
-use mathlib.Core.Path.{_≡_, refl, sym, ap, _∙_, subst}
+use mathlib.Core.Path.{_≡_, refl, ap, _∙_, subst}
+use native.Mathlib.Numerals.{add-one}
 use native.Mathlib.Omega.{arith}
-use borrow.Author.Tests.{lt-ltb, le-ltb}
 use lib.Dec.{T}
-use lib.ListN.{length, getD, take, length-set}
-use Rattle.ring.specs.declared.Links.{Links}
-use Rattle.ring.specs.Ring.{next, walk, circle, follow}
-use Rattle.ring.specs.Found.{linksIn, linkAt}
-use Rattle.ring.proofs.Stepping.{onto, onto-none, walk-closes, walk-goes, walk-stops, walk-spent}
+use lib.ListN.{length, take, set, drop, length-set, drop-of-length-le}
+use Rattle.ring.specs.Ring.{Link, next, walk, circle, follow}
+use Rattle.ring.specs.Found.{linksIn}
+use Rattle.ring.proofs.Stepping.{onto, onto-none, next-here, next-later, walk-closes, walk-goes, walk-stops, walk-spent}
 use Rattle.ring.proofs.Stepping.{follow-goes, follow-ends, follow-spent}
-use Rattle.ring.proofs.Arrays.{in-length}
+use Rattle.ring.proofs.Arrays.{in-length, in-drop}
 use Rattle.ring.proofs.walk.Statement.{statement}
 use Rattle.ring.proofs.walk.Tie as tie
 
 abbrev Inv-loop : tie.InvT-loop
-Inv-loop start links n v₀ here₀ m₀ v here m =
-    (m ≤ n) × (n ≡ links .n) × (length v ≡ 61) × (circle (linksIn links) start ≡ onto (take m v) (walk (n - m) (linksIn links) start here))
-    × (follow n (linksIn links) start ≡ take m v ++ follow (n - m) (linksIn links) here)
+Inv-loop start links n v₀ here₀ m₀ i₀ v here m i =
+    (v ≡ v₀) × (here ≡ here₀) × (m ≡ m₀) × (i ≤ n) × (next (linksIn links) here ≡ next (drop i (linksIn links)) here)
 
 abbrev μ-loop : tie.MeasureT-loop
-μ-loop start links n v₀ here₀ m₀ v here m = n - m
+μ-loop start links n v₀ here₀ m₀ i₀ v here m i = n - i
 
--- the step from a point, by the place of its link
+abbrev Inv-walk : tie.InvT-walk
+Inv-walk start links n v₀ here₀ m₀ v here m =
+    (m ≤ n) × (n ≡ links .n) × (length v ≡ 61)
+    × (circle (linksIn links) start ≡ onto (take m v) (walk (n - m) (linksIn links) start here))
+    × (follow n (linksIn links) start ≡ take m v ++ follow (n - m) (linksIn links) here)
 
-no-step : (links : Links) (here at : ℕ) → next (linksIn links) here ≡ linkAt links at → at ≡ links .n → next (linksIn links) here ≡ none
-no-step links here at e q = e ∙ rw (le-ltb at (links .n) (omega arith))
+abbrev μ-walk : tie.MeasureT-walk
+μ-walk start links n v₀ here₀ m₀ v here m = n - m
 
-a-step : (links : Links) (here at : ℕ) → (at ≤ links .n) → next (linksIn links) here ≡ linkAt links at → (at ≡ links .n → ⊥)
-    → next (linksIn links) here ≡ some (getD (links .ends) at 0)
-a-step links here at h e d = e ∙ rw (lt-ltb at (links .n) (omega arith))
+-- the inner loop leaves the walk so far as it was
+inside : (links : List Link) (start n : ℕ) {v v' : List ℕ} {here here' m m' : ℕ} → v ≡ v' → here ≡ here' → m ≡ m'
+    → circle links start ≡ onto (take m' v') (walk (n - m') links start here')
+    → circle links start ≡ onto (take m v) (walk (n - m) links start here)
+inside links start n p q r e = rw (p, q, r) e
 
-loop-holds : tie.Need-loop-holds Inv-loop μ-loop
-loop-holds c =
+inside-follow : (links : List Link) (start n : ℕ) {v v' : List ℕ} {here here' m m' : ℕ} → v ≡ v' → here ≡ here' → m ≡ m'
+    → follow n links start ≡ take m' v' ++ follow (n - m') links here'
+    → follow n links start ≡ take m v ++ follow (n - m) links here
+inside-follow links start n p q r e = rw (p, q, r) e
+
+walk-holds : tie.Need-walk-holds Inv-loop μ-loop Inv-walk μ-walk
+walk-holds c =
     let links = linksIn (c .args .t1) in
     let e : length links ≡ c .args .t1 .n - 0 = omega (arith, in-length (c .args .t1)) in
     let all : c .args .t1 .n ≡ c .args .t1 .n - 0 = omega arith in
     (omega arith, refl, refl, rw e (onto-none _), ap (λ k. follow k links (c .args .start)) all)
 
-array-write-v : tie.Need-array-write-v Inv-loop μ-loop
+loop-holds : tie.Need-loop-holds Inv-loop μ-loop Inv-walk μ-walk
+loop-holds c = (refl, refl, refl, omega arith, refl)
+
+element-copy-out-if1 : tie.Need-element-copy-out-if1 Inv-loop μ-loop Inv-walk μ-walk
+element-copy-out-if1 c = omega arith
+
+array-write-v : tie.Need-array-write-v Inv-loop μ-loop Inv-walk μ-walk
 array-write-v c = omega arith
 
-add-m : tie.Need-add-m Inv-loop μ-loop
+add-m : tie.Need-add-m Inv-loop μ-loop Inv-walk μ-walk
 add-m c = omega arith
 
-link-from-requires : tie.Need-link-from-requires Inv-loop μ-loop
-link-from-requires c κs = omega arith
-
-returns : tie.Need-returns Inv-loop μ-loop
-returns c =
-    let at = c .before .before .before in
-    let inv = at .loop .inv in
-    let links = at .before .args .t1 in
-    let start = at .before .args .start in
-    let found = c .before .link-from in
-    let e = no-step links (at .loop .here) (found .result) (found .ensures .1) (c .if1 .taken) in (
-      simp length-set (omega arith),
-      walk-stops (linksIn links) start (links .n) (at .loop .m) (at .loop .v) (at .loop .here) (inv .3) e,
-      λ _. follow-ends (linksIn links) start (links .n) (at .loop .m) (at .loop .v) (at .loop .here) (inv .4) (omega arith) (omega arith) e,
-    )
-
-element-copy-out-here : tie.Need-element-copy-out-here Inv-loop μ-loop
+element-copy-out-here : tie.Need-element-copy-out-here Inv-loop μ-loop Inv-walk μ-walk
 element-copy-out-here c = omega arith
 
-returns-2 : tie.Need-returns-2 Inv-loop μ-loop
-returns-2 c =
-    let asked = c .before .before .before in
-    let at = asked .before .before in
+returns : tie.Need-returns Inv-loop μ-loop Inv-walk μ-walk
+returns c =
+    let at = c .before .before .before .before .before in
     let inv = at .loop .inv in
-    let links = at .before .args .t1 in
-    let start = at .before .args .start in
-    let found = asked .link-from in
-    let e = a-step links (at .loop .here) (found .result) (found .ensures .0) (found .ensures .1) (c .before .before .if1 .left) in (
-      simp length-set (omega arith),
-      walk-closes (linksIn links) start (links .n) (at .loop .m) (at .loop .v) (at .loop .here) (inv .3) (omega arith) (omega arith)
-          (e ∙ ap some (c .if2 .taken)),
+    let out = at .before .before .walk .inv in
+    let links = at .before .before .before .args .t1 in
+    let start = at .before .before .before .args .start in
+    let d = in-drop links (at .loop .i) (omega arith) in
+    let so-far = inside (linksIn links) start (links .n) (inv .0) (inv .1) (inv .2) (out .3) in (
+      simp length-set (rw (inv .0) (omega arith)),
+      walk-closes (linksIn links) start (links .n) (at .loop .m) (at .loop .v) (at .loop .here) so-far (omega arith)
+          (rw (inv .0) (omega arith))
+          (inv .4 ∙ next-here d (c .before .before .if1 .taken) ∙ ap some (c .if2 .taken)),
       λ no. absurd (subst T no tt),
     )
 
-loop-less : tie.Need-loop-less Inv-loop μ-loop
-loop-less c = omega arith
+walk-less : tie.Need-walk-less Inv-loop μ-loop Inv-walk μ-walk
+walk-less c = omega arith
 
-loop-again : tie.Need-loop-again Inv-loop μ-loop
-loop-again c =
-    let asked = c .before .before .before in
-    let at = asked .before .before in
+walk-again : tie.Need-walk-again Inv-loop μ-loop Inv-walk μ-walk
+walk-again c =
+    let at = c .before .before .before .before .before in
     let inv = at .loop .inv in
-    let links = at .before .args .t1 in
-    let start = at .before .args .start in
-    let found = asked .link-from in
-    let e = a-step links (at .loop .here) (found .result) (found .ensures .0) (found .ensures .1) (c .before .before .if1 .left) in (
+    let out = at .before .before .walk .inv in
+    let links = at .before .before .before .args .t1 in
+    let start = at .before .before .before .args .start in
+    let d = in-drop links (at .loop .i) (omega arith) in
+    let so-far = inside (linksIn links) start (links .n) (inv .0) (inv .1) (inv .2) (out .3) in
+    let followed = inside-follow (linksIn links) start (links .n) (inv .0) (inv .1) (inv .2) (out .4) in
+    let step = inv .4 ∙ next-here d (c .before .before .if1 .taken) in (
       omega arith,
       refl,
-      simp length-set (inv .2),
-      walk-goes (linksIn links) start (links .n) (at .loop .m) (at .loop .v) (at .loop .here) (inv .3) (omega arith) (omega arith)
-          e (c .if2 .left),
-      follow-goes (linksIn links) start (links .n) (at .loop .m) (at .loop .v) (at .loop .here) (inv .4) (omega arith) (omega arith) e,
+      simp length-set (rw (inv .0) (out .2)),
+      walk-goes (linksIn links) start (links .n) (at .loop .m) (at .loop .v) (at .loop .here) so-far (omega arith)
+          (rw (inv .0) (omega arith)) step (c .if2 .left),
+      follow-goes (linksIn links) start (links .n) (at .loop .m) (at .loop .v) (at .loop .here) followed
+          (rw (inv .0) (omega arith)) (omega arith) step,
     )
 
-array-write-v-2 : tie.Need-array-write-v-2 Inv-loop μ-loop
-array-write-v-2 c = omega arith
+add-i : tie.Need-add-i Inv-loop μ-loop Inv-walk μ-walk
+add-i c = omega arith
 
-add-t20 : tie.Need-add-t20 Inv-loop μ-loop
-add-t20 c = omega arith
+loop-less : tie.Need-loop-less Inv-loop μ-loop Inv-walk μ-walk
+loop-less c = omega arith
 
-returns-3 : tie.Need-returns-3 Inv-loop μ-loop
-returns-3 c =
-    let at = c .before in
+loop-again : tie.Need-loop-again Inv-loop μ-loop Inv-walk μ-walk
+loop-again c =
+    let at = c .before .before .before in
     let inv = at .loop .inv in
-    let links = at .before .args .t1 in
-    let start = at .before .args .start in (
-      simp length-set (omega arith),
-      walk-spent (linksIn links) start (links .n) (at .loop .m) (at .loop .v) (at .loop .here) (inv .3) (omega arith),
-      λ _. follow-spent (linksIn links) start (links .n) (at .loop .m) (at .loop .v) (at .loop .here) (inv .4) (omega arith) (omega arith),
-    )
+    let d = in-drop (at .before .before .before .args .t1) (at .loop .i) (omega arith) in
+    (inv .0, inv .1, inv .2, omega arith, rw add-one (inv .4 ∙ next-later d (c .if1 .left)))
+
+-- where the walk has ended: its points, with the one where it stands, are those that follow
+abbrev Ended : tie.Left-walk Inv-loop μ-loop Inv-walk μ-walk → Type 0
+Ended c =
+    let args = c .before .before .args in
+    let links = linksIn (args .t1) in
+    let at = c .walk-test in
+    (at .m ≤ args .t1 .n) × (length (at .v) ≡ 61) × (none ≡ circle links (args .start))
+    × (take (at .m + 1) (set (at .v) (at .m) (at .here)) ≡ follow (args .t1 .n) links (args .start))
+
+ended : (c : tie.Left-walk Inv-loop μ-loop Inv-walk μ-walk) → Ended c
+unfolding next
+ended c =
+    let at = c .before .walk in
+    let links = c .before .before .args .t1 in
+    let start = c .before .before .args .start in
+    ⊎-elim
+    (λ w. (
+      omega arith,
+      rw (w .1) (at .inv .2),
+      walk-spent (linksIn links) start (links .n) (at .m) (at .v) (at .here) (at .inv .3) (omega arith),
+      rw (w .1, w .2, w .3)
+          (follow-spent (linksIn links) start (links .n) (at .m) (at .v) (at .here) (at .inv .4) (omega arith) (omega arith)),
+    ))
+    (λ w.
+    let inv = w .1 .inv in
+    let d = drop-of-length-le (linksIn links) {i = w .1 .i} (omega (arith, w .2 .left, in-length links)) in
+    let stuck : next (linksIn links) (w .1 .here) ≡ none = inv .4 ∙ rw d in
+    let none-on : next (linksIn links) (at .here) ≡ none = rw (inv .1) at stuck in (
+      omega (arith, w .5, inv .2),
+      rw (w .3, inv .0) (at .inv .2),
+      walk-stops (linksIn links) start (links .n) (at .m) (at .v) (at .here) (at .inv .3) none-on,
+      rw (w .3, w .4, w .5, inv .0, inv .1, inv .2)
+          (follow-ends (linksIn links) start (links .n) (at .m) (at .v) (at .here) (at .inv .4) (omega arith) none-on),
+    ))
+    (c .walk-test .came)
+
+array-write-v-2 : tie.Need-array-write-v-2 Inv-loop μ-loop Inv-walk μ-walk
+array-write-v-2 c = omega (arith, ended c .0)
+
+add-t23 : tie.Need-add-t23 Inv-loop μ-loop Inv-walk μ-walk
+add-t23 c = omega (arith, ended c .0)
+
+returns-2 : tie.Need-returns-2 Inv-loop μ-loop Inv-walk μ-walk
+returns-2 c =
+    let (low, size, open-end, followed) = ended c in
+    (simp length-set (omega arith), open-end, λ _. followed)
 
 pub walk-spec : {M : Type 1} → statement M
 walk-spec =
@@ -124,15 +172,20 @@ walk-spec =
     (tie.spec
     Inv-loop
     μ-loop
+    Inv-walk
+    μ-walk
+    walk-holds
     loop-holds
+    element-copy-out-if1
     array-write-v
     add-m
-    link-from-requires
-    returns
     element-copy-out-here
-    returns-2
+    returns
+    walk-less
+    walk-again
+    add-i
     loop-less
     loop-again
     array-write-v-2
-    add-t20
-    returns-3)
+    add-t23
+    returns-2)
