@@ -1,7 +1,8 @@
 -- A triangulation of the ring is admissible by the mesh rule of the whole table exactly if it is admissible by the faces of its
--- triangles and diagonals. New rows are proper and use no face twice, and their outer faces are the removed rows' own.
+-- triangles and diagonals, and nothing shuts the chain. New rows are proper and use no face twice, and their other outer faces are
+-- the removed rows' own.
 use Prim.Native.Nat.{ℕ, suc, _+_, _-_, _<_, _≤_}
-use mathlib.Core.Bool.{not, _&&_}
+use mathlib.Core.Bool.{Bool, true, false, not, _&&_}
 use mathlib.Core.List.{List, _++_}
 use mathlib.Core.Path.{_≡_, refl}
 use native.Mathlib.Decide.{decLe}
@@ -19,9 +20,10 @@ use Rattle.mesh.proofs.Rule.{keeps-hits, hits-keep}
 use Rattle.ring.specs.Ring.{Site, m}
 use Rattle.ring.specs.Sound.{SoundChain, SoundRing}
 use Rattle.pieces.specs.Triangulation.{Tri, side, cut, span, newRows, tableAfter}
-use Rattle.pieces.specs.Admissible.{admissible, keptUses, pieceAdmissible}
+use Rattle.pieces.specs.Admissible.{admissible, keptUses, pieceAdmissible, shut}
 use Rattle.pieces.proofs.Trees.{endOf, end-span, end-more, aTop, bTop, aFace, bFace, ringFace, closingFree, piece-side, piece-cut}
 use Rattle.pieces.proofs.Once.{with-end, with-a, with-b, of-three, own, users-cut, users-own, new-once}
+use Rattle.pieces.proofs.Shut.{ring-faces, chain-faces}
 use Rattle.pieces.proofs.Sound.{countOf, keptUsers, table-users, kept-fit, outer-own, next-link, last-link, all-differ, new-proper}
 
 -- ---- what no kept row uses
@@ -186,32 +188,38 @@ module _ (site : Site) (sound : SoundChain site) (t : Tri) (whole : span t ≡ m
       top side one h = absurd (omega (arith, end-span 1 side))
       top (cut l r) one h = top-free site 1 l r one
 
--- a ring, where v1 vm is a side: its outer faces are the removed rows' own
+-- where no kept row uses the closing side the way that a new row does, nothing is shut,
+top-open : (site : Site) → TopFree site 1 (m site) → T (not (shut site))
+unfolding shut any
+top-open site top = go (site .closed) refl
+  where
+    go : (closed : Bool) → site .closed ≡ closed → T (not (shut site))
+    go true e = rw (ring-faces site e) tt
+    go false e =
+        let a = none-counted (uses (aFace site 1 (m site))) (site .kept) (top .0) in
+        let b = none-counted (uses (bFace site (m site) 1)) (site .kept) (top .1) in
+        rw (chain-faces site e) (search (neither-i))
+
+-- and where nothing is shut, none does: of a ring the closing side is the removed rows' own
+open-top : (site : Site) → SoundRing site → 1 ≤ m site → T (not (shut site)) → TopFree site 1 (m site)
+unfolding shut any
+open-top site ring one h = go (site .closed) refl
+  where
+    go : (closed : Bool) → site .closed ≡ closed → TopFree site 1 (m site)
+    go true e = outer-own site (ring .chain) (last-link site ring e (m site) one refl)
+    go false e =
+        let k = rw (chain-faces site e) at h in (
+          count-none (uses (aFace site 1 (m site))) (site .kept) (search (neither-l)),
+          count-none (uses (bFace site (m site) 1)) (site .kept) (search (neither-l, neither-r)),
+        )
+
+-- of a ring, and of a chain where the closing side counts too, each way that a new row uses it
 pub ring-admissible : (site : Site) → SoundRing site → (t : Tri) → span t ≡ m site - 1 → 3 ≤ m site
-    → admissible site t ≡ pieceAdmissible site 1 t
+    → admissible site t ≡ not (shut site) && pieceAdmissible site 1 t
 ring-admissible site ring t whole three =
     let chain = ring .chain in
-    same-test (admissible site t) (pieceAdmissible site 1 t)
-    (λ h. admissible-if site 1 t (one-if site chain t whole three h))
-    (λ h. keeps-if site chain t whole three (outer-own site chain (last-link site ring (m site) (omega arith) refl)) h)
-
--- an open chain: the closing side counts, each way that a new row uses it
-pub chain-admissible : (site : Site) → SoundChain site → (t : Tri) → span t ≡ m site - 1 → 3 ≤ m site
-    → admissible site t
-    ≡ not (any (uses (aFace site 1 (m site))) (site .kept)) && not (any (uses (bFace site (m site) 1)) (site .kept))
-    && pieceAdmissible site 1 t
-chain-admissible site chain t whole three =
-    let a = uses (aFace site 1 (m site)) in
-    let b = uses (bFace site (m site) 1) in
-    let kept = site .kept in
-    same-test (admissible site t) (not (any a kept) && not (any b kept) && pieceAdmissible site 1 t)
-    (λ h.
-    let top = top-if site chain t whole three h in
-    let na = none-counted a kept (top .0) in
-    let nb = none-counted b kept (top .1) in
-    let piece = admissible-if site 1 t (one-if site chain t whole three h) in
-    search (and-i))
-    (λ h.
-    let na = count-none a kept (search (and-l, and-r)) in
-    let nb = count-none b kept (search (and-l, and-r)) in
-    keeps-if site chain t whole three (na, nb) (search (and-l, and-r)))
+    let free = not (shut site) in
+    let piece = pieceAdmissible site 1 t in
+    same-test (admissible site t) (free && piece)
+    (λ h. and-i free piece (top-open site (top-if site chain t whole three h)) (admissible-if site 1 t (one-if site chain t whole three h)))
+    (λ h. keeps-if site chain t whole three (open-top site ring (omega arith) (and-l free piece h)) (and-r free piece h))

@@ -1,9 +1,9 @@
 -- Looking up the keys of the gathered faces is looking at every kept row, for a face whose numbers are all marked:
 -- a face of a kept row that is the same face has the same numbers, so it was gathered.
 use Prim.Native.Nat.{ℕ, _+_, _<_}
-use mathlib.Core.Bool.{Bool, true, false, not, _&&_, _||_}
+use mathlib.Core.Bool.{Bool, true, false, not, _&&_}
 use mathlib.Core.List.{List, [], _∷_, _++_, map, flatMap, append-nil, append-assoc, List·Memᴰ, Memᴰ·map, Memᴰ·of-map, map-append}
-use mathlib.Core.Path.{_≡_, sym, ap, ap₂, _∙_, subst}
+use mathlib.Core.Path.{_≡_, sym, ap, _∙_, subst}
 use lib.Dec.{T}
 use native.Mathlib.Decide.{ℕ-discrete, decLt}
 use native.Mathlib.Numerals.{add-one}
@@ -12,16 +12,16 @@ use lib.ListN.{length, getD, set, take}
 use lib.Seq.{take-suc-set, getD-set-same, getD-set-other}
 use Rattle.lists.specs.Lists.{any, those, has}
 use Rattle.lists.proofs.Tests.{same-test, and-l, and-r, and-i}
-use Rattle.lists.proofs.Lists.{any-i, any-e, those-e, those-i, those-append, any-or}
+use Rattle.lists.proofs.Lists.{any-i, any-e, those-e, those-i, those-append}
 use Rattle.lists.proofs.Numbers.{has-i, has-e}
 use Rattle.lists.proofs.Images.{flatMap-i, flatMap-e, flatMap-append}
 use Rattle.mesh.specs.declared.Row.{Row}
-use Rattle.mesh.specs.Mesh.{rowIn, rowsIn, Face, faces, uses, usesEitherWay, reversed, holdsEdge}
+use Rattle.mesh.specs.Mesh.{rowIn, rowsIn, Face, faces, uses, holdsEdge}
 use Rattle.mesh.specs.Keys.{faceKey}
 use Rattle.mesh.proofs.Faces.{Turned, as-is, once, twice, same-turned, turned-same, uses-e, uses-i}
 use Rattle.mesh.proofs.Keys.{Small, key-same, same-key, faces-small}
 use Rattle.mesh.proofs.Tables.{Bytes, rows-more}
-use Rattle.pieces.specs.Gathered.{marked, keyed, keptOf, keptKeys, usedBy}
+use Rattle.pieces.specs.Gathered.{marked, keyed, keptOf, keptKeys}
 
 -- gathering goes by parts
 pub keyed-append : (marks : List Bool) (fs gs : List Face) → keyed marks (fs ++ gs) ≡ keyed marks fs ++ keyed marks gs
@@ -132,7 +132,7 @@ marked-turned marks f g turned h = go turned
     go (twice a b c) = all (rw b at two) (rw c at three) (rw a at one)
 
 module _ (marks : List Bool) (rows : List Row) (bytes : (row : Row) → List·Memᴰ row rows → Bytes row) where
-  key-kept : (f : Face) → Small f → T (marked marks f) → has (keptKeys marks rows) (faceKey f) ≡ any (uses f) rows
+  pub key-kept : (f : Face) → Small f → T (marked marks f) → has (keptKeys marks rows) (faceKey f) ≡ any (uses f) rows
   unfolding keyed
   key-kept f small h = same-test (has (keptKeys marks rows) (faceKey f)) (any (uses f) rows) there back
     where
@@ -154,14 +154,3 @@ module _ (marks : List Bool) (rows : List Row) (bytes : (row : Row) → List·Me
           let in-those = those-i (marked marks) (flatMap faces rows) (flatMap-i faces rows (at .1) (used .1)) is-marked in
           has-i (keptKeys marks rows)
           (subst (λ k. List·Memᴰ k (keptKeys marks rows)) (sym (same-key f g (turned-same f g (used .2)))) (Memᴰ·map faceKey in-those))
-
-  -- looked up either way round
-  pub used-kept : (f : Face) → Small f → T (marked marks f) → usedBy (keptKeys marks rows) f ≡ any (usesEitherWay f) rows
-  used-kept f small h =
-      let back : Small (reversed f) = record { small-0 = small .small-0; small-1 = small .small-2; small-2 = small .small-1 } in
-      let a = getD marks (f .0) false in
-      let b = getD marks (f .1) false in
-      let c = getD marks (f .2) false in
-      let ab = and-l (a && b) c h in
-      let turned = and-i (a && c) b (and-i a c (and-l a b ab) (and-r (a && b) c h)) (and-r a b ab) in
-      ap₂ _||_ (key-kept f small h) (key-kept (reversed f) back turned) ∙ sym (any-or (uses f) (uses (reversed f)) rows)

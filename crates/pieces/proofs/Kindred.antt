@@ -1,5 +1,5 @@
--- Two sites with the same points, ends and ring, whose kept rows are the same tetrahedra: the same ways are admissible, with the same
--- worst, and the same one is chosen; so the new rows have the same numbers. Only the region may differ.
+-- Two sites with the same points, ends and ring or chain, whose kept rows are the same tetrahedra: the same ways are admissible, with
+-- the same worst, and the same one is chosen; so the new rows have the same numbers. Only the region may differ.
 use Prim.Native.Nat.{ℕ, zero, suc, _-_}
 use mathlib.Core.Bool.{Bool, not, _&&_}
 use mathlib.Core.List.{List, [], _∷_, map, flatMap}
@@ -9,19 +9,29 @@ use Rattle.lists.specs.Lists.{any, those, first, numbersFrom}
 use Rattle.measure.specs.declared.Quality.{Quality}
 use Rattle.measure.specs.Measure.{worst, best, asGood, zeroQuality}
 use Rattle.mesh.specs.declared.Row.{Row}
-use Rattle.mesh.specs.Mesh.{Face, numbers, usesEitherWay, reversed, rowQuality}
+use Rattle.mesh.specs.Mesh.{Face, numbers, uses, usesEitherWay, reversed, rowQuality}
 use Rattle.mesh.specs.Tetrahedra.{SameTetrahedra}
 use Rattle.mesh.proofs.Evenly.{even-uses}
 use Rattle.ring.specs.Ring.{Site, Link, m}
 use Rattle.pieces.specs.Triangulation.{Tri, side, cut, Triangle, triangles, diagonals, ways, v, twoRows, newRows}
-use Rattle.pieces.specs.Admissible.{keptUses, triangleFace, diagonalFaces, pieceAdmissible}
+use Rattle.pieces.specs.Admissible.{keptUses, triangleFace, diagonalFaces, pieceAdmissible, closingFaces, shut}
 use Rattle.pieces.specs.Best.{worstOfWay, pieceWays, bestWorst, hasApex, reaches, apex, chosenWithin, chosen}
 use Rattle.pieces.proofs.Across.{any-across}
 
 module _ (site : Site) (removed kept : List Row) (links : List Link) (same : SameTetrahedra (site .kept) kept) where
   -- the site with other rows
   abbrev pub kin : Site
-  kin = record { points = site .points; a = site .a; b = site .b; removed = removed; kept = kept; links = links; ring = site .ring }
+  kin =
+      record {
+        points = site .points;
+        a = site .a;
+        b = site .b;
+        removed = removed;
+        kept = kept;
+        links = links;
+        closed = site .closed;
+        ring = site .ring;
+      }
 
   -- ---- admissible
 
@@ -48,6 +58,17 @@ module _ (site : Site) (removed kept : List Row) (links : List Link) (same : Sam
       ap (λ used. faceFree used (triangleFace site) (diagonalFaces site) i t) (fun-ext uses-same)
       ∙ ap (λ face. faceFree (keptUses kin) face (diagonalFaces site) i t) (fun-ext face)
       ∙ ap (λ sides. faceFree (keptUses kin) (triangleFace kin) sides i t) (fun-ext sides)
+
+  -- the same chains are shut
+  pub shut-same : shut site ≡ shut kin
+  unfolding shut closingFaces
+  shut-same =
+      ap (λ (used : Face → Bool). any used (closingFaces site))
+      (fun-ext (λ f. any-across (uses f) (λ t u even. even-uses t u even f) (site .kept) kept same))
+      ∙ ap (any (λ f. any (uses f) kept)) (faces (v-same (m site)))
+    where
+      faces : v site (m site) ≡ v kin (m site) → closingFaces site ≡ closingFaces kin
+      faces e = rw e
 
   -- ---- the new rows, but for the region
 

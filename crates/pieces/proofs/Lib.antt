@@ -1,6 +1,7 @@
 pub mod Trees
 pub mod Once
 pub mod Sound
+pub mod Shut
 pub mod Admissible
 pub mod Triangulation
 pub mod Ways

@@ -1,7 +1,8 @@
 -- What a table that keeps the pieces of a ring says of every triangulation, and what a caller of the expansion has to show of it.
 use Prim.Native.Nat.{ℕ, zero, suc, _+_, _-_, _≤_, _<_}
-use mathlib.Core.Bool.{not}
-use mathlib.Core.Option.{Option, none, some}
+use mathlib.Core.Bool.{Bool, true, false, true≢false, cond, not}
+use mathlib.Core.Logic.{_⊎_, inl, inr}
+use mathlib.Core.Option.{Option, none, some, Option·none-ne-some}
 use mathlib.Core.Path.{_≡_, refl, sym, ap, _∙_, subst}
 use native.Mathlib.Omega.{arith}
 use lib.Dec.{T, T-not, not-T}
@@ -13,11 +14,13 @@ use Rattle.measure.proofs.Order.{Fraction, _≈_, as-good, from-as-good, as-goo
 use Rattle.ring.specs.Ring.{Site, m, maxRing}
 use Rattle.pieces.specs.declared.Pieces.{Pieces}
 use Rattle.pieces.specs.Triangulation.{Tri, cut, span, v, regionOf}
-use Rattle.pieces.specs.Admissible.{pieceAdmissible}
-use Rattle.pieces.specs.Best.{Keeps, worstOfWay, bestWorst, apex, cellAt, keptBest, keptApex, sameBest, reaches}
+use Rattle.pieces.specs.Admissible.{pieceAdmissible, shut}
+use Rattle.pieces.specs.Best.{Keeps, worstOfWay, bestWorst, apex, cellAt, shutPiece, tableBest, tableApex, keptBest, keptApex}
+use Rattle.pieces.specs.Best.{sameBest, reaches}
 use Rattle.pieces.specs.Filling.{codedApex, readBest}
 use Rattle.pieces.specs.Expanding.{Between, Follows}
 use Rattle.pieces.specs.Optimum.{IsBestWorst, IsMarked, IsApex}
+use Rattle.pieces.proofs.Shut.{open-piece}
 use Rattle.pieces.proofs.Ways.{span-over}
 use Rattle.pieces.proofs.Stored.{apex-over}
 use Rattle.pieces.proofs.Worsts.{Way, Reached, best-there, best-reached}
@@ -43,10 +46,23 @@ module _ {site : Site} {table : Pieces} (keeps : Keeps site table) where
     way : (t : Tri) → span t ≡ j - i → T (pieceAdmissible site i t) → Way site i j t
     way t e a = record { ends = omega arith; admissible = a }
 
+    -- what the cell keeps, as good as what it is to keep
+    told : {o : Option Quality} → keptBest table i j ≡ o → T (sameBest o (tableBest site i j))
+    told e = subst (λ o. T (sameBest o (tableBest site i j))) e (keeps .best i j start long end)
+
+    -- a cell that keeps a best worst is not that of a chain that is shut
+    pub kept-open : {q : Quality} → keptBest table i j ≡ some q → shutPiece site i j ≡ false
+    unfolding sameBest
+    kept-open {q} e = go (shutPiece site i j) (told e)
+      where
+        go : (b : Bool) → T (sameBest (some q) (cond b none (bestWorst site i j))) → b ≡ false
+        go true t = absurd t
+        go false t = refl
+
     -- the kept best worst is one fraction with one that is reached
     top : {q : Quality} → keptBest table i j ≡ some q → (p : Quality) × (bestWorst site i j ≡ some p) × Reached site i j p × (q ≈ p)
     unfolding sameBest
-    top {q} e = go (bestWorst site i j) refl (subst (λ o. T (sameBest o (bestWorst site i j))) e (keeps .best i j start long end))
+    top {q} e = go (bestWorst site i j) refl (subst (λ b. T (sameBest (some q) (cond b none (bestWorst site i j)))) (kept-open e) (told e))
       where
         go : (o : Option Quality) → bestWorst site i j ≡ o → T (sameBest (some q) o)
             → (p : Quality) × (bestWorst site i j ≡ some p) × Reached site i j p × (q ≈ p)
@@ -54,39 +70,52 @@ module _ {site : Site} {table : Pieces} (keeps : Keeps site table) where
         go (some p) b t = (p, b, best-reached site (omega arith) b, from-as-good q p t)
 
     -- a cell is its piece's best worst over every admissible triangulation,
-    pub kept-best : {q : Quality} → keptBest table i j ≡ some q → IsBestWorst site i j q
+    pub kept-best : {q : Quality} → keptBest table i j ≡ some q → (shutPiece site i j ≡ false) × IsBestWorst site i j q
     kept-best {q} e =
         let t = top e in
         let p = t .0 in
-        let r = t .2 in
-        record {
-          by = r .by;
-          spans = omega (arith, r .way .ends);
-          admissible = r .way .admissible;
-          reaches = as-good (subst (λ w. w ≈ q) (sym (r .worst)) (record { up = t .3 .down; down = t .3 .up }));
-          none-better = λ u s a. at-most-trans (r .fraction) (r .bounds u (way u s a)) (t .3 .down) .not-worse;
-        }
+        let r = t .2 in (
+          kept-open e,
+          record {
+            by = r .by;
+            spans = omega (arith, r .way .ends);
+            admissible = r .way .admissible;
+            reaches = as-good (subst (λ w. w ≈ q) (sym (r .worst)) (record { up = t .3 .down; down = t .3 .up }));
+            none-better = λ u s a. at-most-trans (r .fraction) (r .bounds u (way u s a)) (t .3 .down) .not-worse;
+          },
+        )
 
-    -- or the mark, exactly when there is none
-    pub kept-mark : keptBest table i j ≡ none → IsMarked site i j
+    -- or the mark, exactly when there is none or the chain is shut
+    pub kept-mark : keptBest table i j ≡ none → (shutPiece site i j ≡ true) ⊎ IsMarked site i j
     unfolding sameBest
-    kept-mark e t s =
-        not-T (pieceAdmissible site i t) (λ a.
-        let b = best-there site (way t s a) in
-        subst (λ o. T (sameBest none o)) (b .1) (subst (λ o. T (sameBest o (bestWorst site i j))) e (keeps .best i j start long end)))
-
-    pub mark-kept : IsMarked site i j → keptBest table i j ≡ none
-    mark-kept marked = go (keptBest table i j) refl
+    kept-mark e = go (shutPiece site i j) refl (told e)
       where
+        go : (b : Bool) → shutPiece site i j ≡ b → T (sameBest none (cond b none (bestWorst site i j)))
+            → (shutPiece site i j ≡ true) ⊎ IsMarked site i j
+        go true s h = inl s
+        go false s h = inr (λ t spans.
+            not-T (pieceAdmissible site i t) (λ a.
+            let b = best-there site (way t spans a) in
+            subst (λ o. T (sameBest none o)) (b .1) h))
+
+    pub mark-kept : (shutPiece site i j ≡ true) ⊎ IsMarked site i j → keptBest table i j ≡ none
+    mark-kept why = go (keptBest table i j) refl
+      where
+        clash : {q : Quality} → keptBest table i j ≡ some q → (shutPiece site i j ≡ true) ⊎ IsMarked site i j → ⊥
+        clash e (inl s) = true≢false (sym s ∙ kept-open e)
+        clash e (inr marked) =
+            let b = kept-best e .1 in
+            T-not (pieceAdmissible site i (b .by)) (marked (b .by) (b .spans)) (b .admissible)
+
         go : (o : Option Quality) → keptBest table i j ≡ o → o ≡ none
         go none e = refl
-        go (some q) e = let b = kept-best e in absurd (T-not (pieceAdmissible site i (b .by)) (marked (b .by) (b .spans)) (b .admissible))
+        go (some q) e = absurd (clash e why)
 
     -- the apex is the smallest k with which some admissible triangulation reaches the best worst
     pub kept-apex : {q : Quality} → keptBest table i j ≡ some q → (k : ℕ) × (keptApex table i j ≡ some k) × IsApex site i j q k
     kept-apex {q} e = (
       k,
-      keeps .apexes i j start long end ∙ own .1,
+      keeps .apexes i j start long end ∙ ap (λ b. cond b none (apex site i j)) (kept-open e) ∙ own .1,
       record {
         left = at .l;
         right = at .r;
@@ -134,8 +163,11 @@ module _ {site : Site} {table : Pieces} (keeps : Keeps site table) where
 
     -- a piece with the mark has no apex
     pub mark-no-apex : keptBest table i j ≡ none → keptApex table i j ≡ none
-    mark-no-apex e = keeps .apexes i j start long end ∙ mark-apex site i j
-        (none-best (bestWorst site i j) (subst (λ o. T (sameBest o (bestWorst site i j))) e (keeps .best i j start long end)))
+    mark-no-apex e = keeps .apexes i j start long end ∙ go (shutPiece site i j) (told e)
+      where
+        go : (b : Bool) → T (sameBest none (cond b none (bestWorst site i j))) → cond b none (apex site i j) ≡ none
+        go true h = refl
+        go false h = mark-apex site i j (none-best (bestWorst site i j) h)
 
     -- what is read from the cell is what it keeps
     pub read-kept : readBest (getD (table .kinds) (cellAt i j) 0) (getD (table .nums) (cellAt i j) 0) (getD (table .dens) (cellAt i j) 0)
@@ -148,7 +180,7 @@ module _ {site : Site} {table : Pieces} (keeps : Keeps site table) where
 
   -- ---- what the expansion asks for
 
-  apex-kept : (l e : ℕ) → 1 ≤ l → l + 2 ≤ e → e ≤ m site → codedApex (getD (table .apexes) (cellAt l e) 0) ≡ apex site l e
+  apex-kept : (l e : ℕ) → 1 ≤ l → l + 2 ≤ e → e ≤ m site → codedApex (getD (table .apexes) (cellAt l e) 0) ≡ tableApex site l e
   apex-kept l e a b c = sym (apex-is table l e) ∙ keeps .apexes l e a b c
 
   -- the apexes lie between the ends of their pieces
@@ -159,20 +191,27 @@ module _ {site : Site} {table : Pieces} (keeps : Keeps site table) where
         low = λ l e a b c. within l e b (getD (table .apexes) (cellAt l e) 0) (apex-kept l e a b c) .1;
       }
     where
-      within : (l e : ℕ) → l + 2 ≤ e → (k : ℕ) → codedApex k ≡ apex site l e → (k < e) × ((k ≡ 0 → ⊥) → l < k)
-      within l e b zero h = (omega arith, λ n. absurd (n refl))
-      within l e b (suc k) h = let between = apex-between site (sym h ∙ apex-over (suc k) (omega arith)) in (between .1, λ n. between .0)
+      own : (l e k : ℕ) (b : Bool) → cond b none (apex site l e) ≡ some k → apex site l e ≡ some k
+      own l e k true h = absurd (Option·none-ne-some k h)
+      own l e k false h = h
 
-  -- points, region and apexes are the site's
-  pub kept-follows : Follows site (table .apexes) (record { a = site .a; b = site .b; v = table .ring })
+      within : (l e : ℕ) → l + 2 ≤ e → (k : ℕ) → codedApex k ≡ tableApex site l e → (k < e) × ((k ≡ 0 → ⊥) → l < k)
+      within l e b zero h = (omega arith, λ n. absurd (n refl))
+      within l e b (suc k) h =
+          let at = own l e (suc k) (shutPiece site l e) (sym h ∙ apex-over (suc k) (omega arith)) in
+          let between = apex-between site at in
+          (between .1, λ n. between .0)
+
+  -- points, region and apexes are the site's, if it is not shut
+  pub kept-follows : shut site ≡ false → Follows site (table .apexes) (record { a = site .a; b = site .b; v = table .ring })
       (regionOf (site .removed)) 1 (m site)
-  kept-follows =
+  kept-follows free =
       record {
         a = refl;
         b = refl;
         v = point;
         own-region = refl;
-        own-apexes = apex-kept;
+        own-apexes = λ l e a b c. apex-kept l e a b c ∙ ap (λ b. cond b none (apex site l e)) (open-piece site free l e);
       }
     where
       point : (l : ℕ) → 1 ≤ l → l ≤ m site → getD (table .ring) (l - 1) 0 ≡ v site l

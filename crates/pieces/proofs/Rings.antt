@@ -1,30 +1,34 @@
--- Laws 1 and 16 for a whole ring: the chosen triangulation keeps the mesh rule, and no other that keeps it has a better worst;
+-- Laws 1 and 16 for a whole ring or chain: the chosen triangulation keeps the mesh rule, and no other that keeps it has a better worst;
 -- and how many rows stand in the table afterwards.
 use Prim.Native.Nat.{_+_, _-_, _≤_}
-use mathlib.Core.Bool.{not}
+use mathlib.Core.Bool.{Bool, true, false, cond, not, _&&_}
 use mathlib.Core.List.{List, map, List·Memᴰ, Memᴰ·of-map}
-use mathlib.Core.Path.{_≡_, ap, subst}
+use mathlib.Core.Option.{none, some, Option·none-ne-some}
+use mathlib.Core.Path.{_≡_, refl, sym, ap, _∙_, subst}
 use native.Mathlib.Omega.{arith}
 use lib.Dec.{T}
 use lib.ListN.{length, length-append}
 use Rattle.lists.specs.Lists.{any, those}
+use Rattle.lists.proofs.Tests.{and-l, and-r, no-is}
 use Rattle.lists.proofs.Lists.{any-e, those-e, those-i, those-split}
+use Rattle.measure.specs.declared.Quality.{Quality}
 use Rattle.measure.specs.Measure.{worse}
-use Rattle.measure.proofs.Order.{worst-is}
+use Rattle.measure.proofs.Order.{Fraction, _⊑_, worst-is}
 use Rattle.mesh.specs.declared.Row.{Row}
 use Rattle.mesh.specs.Mesh.{rowQuality, holdsEdge}
 use Rattle.ring.specs.Ring.{Site, m}
 use Rattle.ring.specs.Sound.{SoundRing}
 use Rattle.pieces.specs.Triangulation.{Tri, side, cut, span, ways, newRows, tableAfter, rowsAfter}
-use Rattle.pieces.specs.Admissible.{admissible, pieceAdmissible}
-use Rattle.pieces.specs.Best.{worstOfWay, ringWays, chosen}
+use Rattle.pieces.specs.Admissible.{admissible, pieceAdmissible, shut}
+use Rattle.pieces.specs.Best.{worstOfWay, ringWays, bestWorst, chosen, shutPiece, tableBest}
+use Rattle.pieces.proofs.Shut.{open-piece, whole-is}
 use Rattle.pieces.proofs.Admissible.{ring-admissible}
 use Rattle.pieces.proofs.Triangulation.{rows-count}
 use Rattle.pieces.proofs.Ways.{ways-span, ways-all}
-use Rattle.pieces.proofs.Worsts.{rows-fractions, worst-there}
+use Rattle.pieces.proofs.Worsts.{Way, rows-fractions, worst-there, best-there, best-reached}
 use Rattle.pieces.proofs.Chosen.{chosen-optimal}
 
--- t triangulates the ring and keeps the mesh rule
+-- t triangulates the ring, or the chain, and keeps the mesh rule
 pub record RingWay (site : Site) (t : Tri) : Type 0 where
   pub spans : span t ≡ m site - 1
   pub keeps : T (admissible site t)
@@ -33,6 +37,14 @@ pub record RingWay (site : Site) (t : Tri) : Type 0 where
 pub record BestWay (site : Site) (c : Tri) : Type 0 where
   pub way : RingWay site c
   pub none-better : (t : Tri) → RingWay site t → T (not (worse (worstOfWay site 1 c) (worstOfWay site 1 t)))
+
+-- a way that keeps the mesh rule has worst q, and none has a better one
+pub record BestOfRing (site : Site) (q : Quality) : Type 0 where
+  pub by : Tri
+  pub way : RingWay site by
+  pub worst : worstOfWay site 1 by ≡ q
+  pub bounds : (t : Tri) → RingWay site t → worstOfWay site 1 t ⊑ q
+  pub fraction : Fraction q
 
 -- ---- the list of ways
 
@@ -52,16 +64,56 @@ module _ (site : Site) (three : 3 ≤ m site) where
       let (t, k, keeps) = any-e (admissible site) (ways (m site - 1)) h in
       (t, record { spans = ways-span (m site - 1) (omega arith) k; keeps = keeps })
 
-  -- law 1
-  pub ring-chosen : SoundRing site → (t : Tri) → RingWay site t → BestWay site (chosen site)
-  ring-chosen sound t w =
-      let by-faces : (t : Tri) → RingWay site t → T (pieceAdmissible site 1 t) =
-      λ t w. subst T (ring-admissible site sound t (w .spans) three) (w .keeps) in
-      let best = chosen-optimal site 1 (m site) t (omega arith) (w .spans) (by-faces t w) in
-      record {
-        way = record { spans = best .spans; keeps = rw (ring-admissible site sound (chosen site) (best .spans) three) (best .admissible) };
-        none-better = λ u k. best .none-better u (k .spans) (by-faces u k);
-      }
+  module _ (sound : SoundRing site) where
+    by-faces : (t : Tri) → RingWay site t → T (not (shut site) && pieceAdmissible site 1 t)
+    by-faces t w = subst T (ring-admissible site sound t (w .spans) three) (w .keeps)
+
+    -- where some way keeps the mesh rule, nothing shuts the chain,
+    pub way-open : (t : Tri) → RingWay site t → shut site ≡ false
+    way-open t w = no-is (shut site) (and-l (not (shut site)) (pieceAdmissible site 1 t) (by-faces t w))
+
+    -- and the ways are the admissible triangulations of piece (1,m)
+    piece-way : (t : Tri) → RingWay site t → Way site 1 (m site) t
+    piece-way t w =
+        record { ends = omega (arith, w .spans); admissible = and-r (not (shut site)) (pieceAdmissible site 1 t) (by-faces t w) }
+
+    ring-way : shut site ≡ false → {t : Tri} → span t ≡ m site - 1 → T (pieceAdmissible site 1 t) → RingWay site t
+    ring-way free {t} spans h =
+        record { spans = spans; keeps = rw (ring-admissible site sound t spans three, free) h }
+
+    -- law 1
+    pub ring-chosen : (t : Tri) → RingWay site t → BestWay site (chosen site)
+    ring-chosen t w =
+        let best = chosen-optimal site 1 (m site) t (omega arith) (w .spans) (piece-way t w .admissible) in
+        record {
+          way = ring-way (way-open t w) (best .spans) (best .admissible);
+          none-better = λ u k. best .none-better u (k .spans) (piece-way u k .admissible);
+        }
+
+    -- ---- what the table of pieces keeps for the whole ring
+
+    -- the mark: no way keeps the mesh rule
+    pub mark-none : tableBest site 1 (m site) ≡ none → (t : Tri) → RingWay site t → ⊥
+    mark-none e t w =
+        let (q, there) = best-there site (piece-way t w) in
+        let own = ap (λ b. cond b none (bestWorst site 1 (m site))) (open-piece site (way-open t w) 1 (m site)) in
+        Option·none-ne-some q (sym e ∙ own ∙ there)
+
+    -- a best worst: a way that keeps the mesh rule reaches it, and none is better
+    pub table-best : {q : Quality} → tableBest site 1 (m site) ≡ some q → BestOfRing site q
+    table-best {q} e = go (shutPiece site 1 (m site)) refl e
+      where
+        go : (b : Bool) → shutPiece site 1 (m site) ≡ b → cond b none (bestWorst site 1 (m site)) ≡ some q → BestOfRing site q
+        go true s k = absurd (Option·none-ne-some q k)
+        go false s k =
+            let r = best-reached site (omega arith) k in
+            record {
+              by = r .by;
+              way = ring-way (sym (whole-is site) ∙ s) (omega (arith, r .way .ends)) (r .way .admissible);
+              worst = r .worst;
+              bounds = λ t w. r .bounds t (piece-way t w);
+              fraction = r .fraction;
+            }
 
   -- a way has a row that is its worst
   pub worst-row : (t : Tri) → span t ≡ m site - 1
@@ -79,9 +131,13 @@ pub after-length : (site : Site) (t : Tri) → span t ≡ m site - 1 → length 
 unfolding tableAfter
 after-length site t e = omega (arith, length-append (site .kept) (newRows site 1 t), rows-count site 1 t)
 
--- where m rows go, m - 4 more stand there afterwards than before
+-- where m rows go, m - 4 more stand there afterwards than before; of a chain m - 1 go, and m - 3 more stand there
 pub after-rows : (site : Site) (table : List Row) → site .removed ≡ those (holdsEdge (site .a) (site .b)) table
     → site .kept ≡ those (λ row. not (holdsEdge (site .a) (site .b) row)) table
-    → m site ≡ length (site .removed) → 3 ≤ m site → rowsAfter site ≡ length table + m site - 4
-after-rows site table going staying size three =
-    omega (arith, those-split (holdsEdge (site .a) (site .b)) table, ap length going, ap length staying)
+    → length (site .removed) + cond (site .closed) 0 1 ≡ m site → 3 ≤ m site
+    → rowsAfter site ≡ length table + m site - cond (site .closed) 4 3
+after-rows site table going staying size three = go (site .closed) size
+  where
+    go : (closed : Bool) → length (site .removed) + cond closed 0 1 ≡ m site → rowsAfter site ≡ length table + m site - cond closed 4 3
+    go true e = omega (arith, those-split (holdsEdge (site .a) (site .b)) table, ap length going, ap length staying)
+    go false e = omega (arith, those-split (holdsEdge (site .a) (site .b)) table, ap length going, ap length staying)

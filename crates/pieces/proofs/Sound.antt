@@ -1,6 +1,7 @@
 -- What a sound chain gives: its points are below the count and all different, so the new rows are proper;
 -- and no kept row uses the outer faces, which are the removed rows' own.
 use Prim.Native.Nat.{ℕ, zero, suc, _+_, _<_, _≤_}
+use mathlib.Core.Bool.{true}
 use mathlib.Core.List.{List·Memᴰ, Memᴰ·of-map}
 use mathlib.Core.Logic.{_≢_}
 use mathlib.Core.Path.{_≡_, sym, subst}
@@ -159,7 +160,8 @@ module _ (site : Site) (sound : SoundChain site) where
         let right = new-proper k r (omega arith) h in
         rw (rows-cut site i l r, every-append (numbersFit (countOf site)) (newRows site i l) (newRows site k r)) (search (and-i))
 
--- vm has a link to v1
-pub last-link : (site : Site) → SoundRing site → (i : ℕ) → 1 ≤ i → i ≡ m site → List·Memᴰ (v site i, v site 1) (site .links)
-last-link site ring zero o e = absurd (omega arith)
-last-link site ring (suc i) o e = ring .closed i e
+-- in a closed ring vm has a link to v1
+pub last-link : (site : Site) → SoundRing site → site .closed ≡ true → (i : ℕ) → 1 ≤ i → i ≡ m site
+    → List·Memᴰ (v site i, v site 1) (site .links)
+last-link site ring closed zero o e = absurd (omega arith)
+last-link site ring closed (suc i) o e = ring .closing closed i e

@@ -33,7 +33,7 @@ two-and points t u rows others =
     ∙ sym (+ℤ-assoc (rowD points t) (rowD points u) (totalD points rows +ℤ totalD points others))
 
 -- D of the row (a,b,x,y), and of the same the other way round
-turned-over : (a b x y : Point) → D a b x y +ℤ D a b y x ≡ pos 0
+pub turned-over : (a b x y : Point) → D a b x y +ℤ D a b y x ≡ pos 0
 turned-over a b x y = ap (λ t. D a b x y +ℤ t) (pqsr D-kept negℤ D-exchanged a b x y) ∙ +ℤ-invr (D a b x y)
 
 module _ (site : Site) where

@@ -1,33 +1,41 @@
--- Law 5: whatever triangulation of the ring is carried out, the total D stays. The removed rows' D are those of their links,
--- the links are the sides of the ring, and the new rows' total is the sum over the sides.
-use Prim.Native.Nat.{ℕ, suc, _+_, _-_, _≤_, _<_}
-use mathlib.Core.Bool.{not}
-use mathlib.Core.List.{List, [], _∷_, map, List·Memᴰ, Memᴰ·of-map, map-append}
+-- Law 5: whatever triangulation of the ring or of a flat chain is carried out, the total D stays. The removed rows' D are those of their
+-- links, the links are the sides, and the new rows' total is the sum over the sides, less the D of the closing one, which is 0 where
+-- the chain is flat.
+use Prim.Native.Nat.{ℕ, zero, suc, _+_, _-_, _≤_, _<_}
+use mathlib.Core.Bool.{Bool, true, false, cond, not, _||_}
+use mathlib.Core.List.{List, [], _∷_, _++_, map, List·Memᴰ, Memᴰ·of-map, map-append}
 use mathlib.Core.Path.{_≡_, refl, sym, ap, _∙_, subst}
 use native.Mathlib.Omega.{arith}
-use lib.Dec.{T}
-use lib.IntN.{ℤ, pos, negℤ, _+ℤ_, +ℤ-idr, +ℤ-comm, +ℤ-invr}
-use lib.ListN.{length, length-map}
+use borrow.Author.Tests.{not-false}
+use lib.Dec.{T, ltb, nltb→le}
+use lib.IntN.{ℤ, pos, negsuc, _+ℤ_, +ℤ-idl, +ℤ-idr, +ℤ-comm}
+use lib.ListN.{length, getD, length-map}
 use Rattle.algebra.proofs.Normal.{var, con, _:+_, norm, same, _⊹_, ring-from}
 use Rattle.lists.specs.Lists.{those, numbersFrom}
-use Rattle.lists.proofs.Tests.{and-l, and-r}
+use Rattle.lists.proofs.Tests.{and-l, and-r, is-yes, neither-r}
 use Rattle.lists.proofs.Lists.{those-e}
 use Rattle.lists.proofs.Sums.{Single, one-more, sumOver, sum-append, sum-through, sum-same, single-map}
 use Rattle.lists.proofs.Numbers.{numbers-e, numbers-length, numbers-append}
 use Rattle.lists.proofs.Places.{in-cases}
-use Rattle.measure.specs.Measure.{D}
-use Rattle.measure.proofs.Identities.{D-kept, D-exchanged, pqsr}
+use Rattle.measure.specs.Measure.{D, sameZ}
 use Rattle.mesh.specs.declared.Row.{Row}
 use Rattle.mesh.specs.Mesh.{holds, holdsEdge, place, rowD, totalD}
 use Rattle.mesh.specs.Tetrahedra.{arrangedFrom}
 use Rattle.mesh.proofs.Places.{arranged-from}
 use Rattle.mesh.proofs.Measured.{even-D, total-split}
-use Rattle.ring.specs.Ring.{Site, Link, link, m}
+use Rattle.ring.specs.Ring.{Site, Link, link, m, flat, notFlat}
 use Rattle.ring.specs.Sound.{SoundRing}
 use Rattle.pieces.specs.Triangulation.{Tri, side, cut, span, v, newRows, tableAfter}
 use Rattle.pieces.proofs.Ways.{span-over}
 use Rattle.pieces.proofs.Sound.{next-link, last-link, all-differ}
-use Rattle.pieces.proofs.Total.{total-append, linkD, chainD, total-piece}
+use Rattle.pieces.proofs.Total.{total-append, turned-over, linkD, chainD, total-piece}
+
+-- the whole number 0
+same-zero : (x : ℤ) → T (sameZ x (pos 0)) → x ≡ pos 0
+same-zero (pos n) h =
+    let none : n ≡ 0 = omega (arith, nltb→le 0 n (neither-r (ltb n 0) (ltb 0 n) h)) in
+    ap pos none
+same-zero (negsuc n) h = absurd h
 
 -- ---- the sides of the ring
 
@@ -70,13 +78,17 @@ module _ (site : Site) where
       ∙ ap (λ x. D (at x) (at (t .q)) (at (t .r)) (at (t .s))) p
       ∙ ap (λ x. D (at a) (at x) (at (t .r)) (at (t .s))) q
 
-  module _ (sound : SoundRing site) (whole : length (site .removed) ≤ m site) (t : Tri) (spans : span t ≡ m site - 1) where
+  module _ (sound : SoundRing site) (level : notFlat site ≡ false) (t : Tri) (spans : span t ≡ m site - 1) where
     many : 2 ≤ m site
     many = omega (arith, span-over t)
 
-    -- the sides of the ring: the closing one, and those from v1 on
-    abbrev sides : List Link
-    sides = (v site (m site), v site 1) ∷ sidesFrom 1 (m site - 1)
+    -- the link that closes a ring; a chain has none
+    abbrev closing : Bool → List Link
+    closing closed = cond closed ((v site (m site), v site 1) ∷ []) []
+
+    -- the sides from v1 on, after the closing one
+    abbrev sides : Bool → List Link
+    sides closed = closing closed ++ sidesFrom 1 (m site - 1)
 
     places-differ : (i j : ℕ) → 1 ≤ i → i ≤ m site → 1 ≤ j → j ≤ m site → v site i ≡ v site j → i ≡ j
     places-differ i j a b c d e = all-differ site (sound .chain) many .points i j (a, b) (c, d) e
@@ -93,31 +105,39 @@ module _ (site : Site) where
         let same = places-differ k j (omega arith) (omega arith) low (omega arith) (ap (λ (l : Link). l .0) e) in
         omega arith
 
-    sides-single : Single sides
-    sides-single = one-more {x = (v site (m site), v site 1)} closing-once (single-map sideAt 1 (m site - 1) step-once)
+    sides-single : (closed : Bool) → Single (sides closed)
+    sides-single true = one-more {x = (v site (m site), v site 1)} closing-once (single-map sideAt 1 (m site - 1) step-once)
+    sides-single false = single-map sideAt 1 (m site - 1) step-once
 
-    sides-linked : (l : Link) → List·Memᴰ l sides → List·Memᴰ l (site .links)
-    sides-linked l k =
-        in-cases k
-        (λ e. subst (λ l. List·Memᴰ l (site .links)) (sym e) (last-link site sound (m site) (omega (arith, many)) refl))
-        (λ k.
+    steps-linked : (l : Link) → List·Memᴰ l (sidesFrom 1 (m site - 1)) → List·Memᴰ l (site .links)
+    steps-linked l k =
         let (i, at, e) = Memᴰ·of-map sideAt (numbersFrom 1 (m site - 1)) k in
         let (low, high) = numbers-e 1 (m site - 1) at in
-        subst (λ l. List·Memᴰ l (site .links)) e (next-link site (sound .chain) i low (omega arith)))
+        subst (λ l. List·Memᴰ l (site .links)) e (next-link site (sound .chain) i low (omega arith))
 
-    sides-length : length (site .links) ≤ length sides
-    sides-length =
-        omega (
-          arith,
-          many,
-          ap length (sound .chain .linked),
-          length-map (site .removed) (link (site .a) (site .b)),
-          length-map (numbersFrom 1 (m site - 1)) sideAt,
-          numbers-length 1 (m site - 1),
-        )
+    sides-linked : (closed : Bool) → site .closed ≡ closed → (l : Link) → List·Memᴰ l (sides closed) → List·Memᴰ l (site .links)
+    sides-linked true is l k =
+        in-cases k
+        (λ e. subst (λ l. List·Memᴰ l (site .links)) (sym e) (last-link site sound is (m site) (omega (arith, many)) refl))
+        (steps-linked l)
+    sides-linked false is l k = steps-linked l k
+
+    sides-length : (closed : Bool) → length (site .removed) + cond closed 0 1 ≡ m site → length (site .links) ≤ length (sides closed)
+    sides-length = by-case
+        (ap length (sound .chain .linked) ∙ length-map (site .removed) (link (site .a) (site .b)))
+        (length-map (numbersFrom 1 (m site - 1)) sideAt ∙ numbers-length 1 (m site - 1))
+      where
+        by-case : length (site .links) ≡ length (site .removed) → length (sidesFrom 1 (m site - 1)) ≡ m site - 1
+            → (closed : Bool) → length (site .removed) + cond closed 0 1 ≡ m site → length (site .links) ≤ length (sides closed)
+        by-case links steps true size = omega (arith, many)
+        by-case links steps false size = omega (arith, many)
+
+    -- what the closing side adds to the total of the removed rows
+    abbrev closingD : Bool → ℤ
+    closingD closed = sumOver ofLink (closing closed)
 
     -- the total of the removed rows
-    removed-total : totalD (site .points) (site .removed) ≡ ofLink (v site (m site), v site 1) +ℤ chainD site 1 t
+    removed-total : totalD (site .points) (site .removed) ≡ closingD (site .closed) +ℤ chainD site 1 t
     unfolding totalD
     removed-total =
         sum-through (rowD (site .points)) ofLink (link (site .a) (site .b)) (site .removed)
@@ -126,18 +146,32 @@ module _ (site : Site) where
         (subst (λ rows. List·Memᴰ row rows) (sound .chain .going) k) in
         link-D row (λ e. omega (arith, sound .chain .ordered)) (both .1))
         ∙ ap (sumOver ofLink) (sym (sound .chain .linked))
-        ∙ sum-same ofLink (site .links) sides sides-length sides-single sides-linked
-        ∙ ap (λ n. ofLink (v site (m site), v site 1) +ℤ sumOver ofLink (sidesFrom 1 n)) (sym spans)
-        ∙ ap (λ z. ofLink (v site (m site), v site 1) +ℤ z) (sides-chain 1 t)
+        ∙ sum-same ofLink (site .links) (sides (site .closed)) (sides-length (site .closed) (sound .size)) (sides-single (site .closed))
+        (sides-linked (site .closed) refl)
+        ∙ sum-append ofLink (closing (site .closed)) (sidesFrom 1 (m site - 1))
+        ∙ ap (λ n. closingD (site .closed) +ℤ sumOver ofLink (sidesFrom 1 n)) (sym spans)
+        ∙ ap (λ z. closingD (site .closed) +ℤ z) (sides-chain 1 t)
 
-    closing-twice : ofLink (v site (m site), v site 1) +ℤ ofLink (v site 1, v site (m site)) ≡ pos 0
-    closing-twice =
+    -- vm as `flat` has it
+    last-point : (n : ℕ) → 1 ≤ n → v site n ≡ getD (site .ring) (n - 1) 0
+    last-point zero h = absurd (omega arith)
+    last-point (suc n) h = let back : suc n - 1 ≡ n = omega arith in rw back
+
+    -- D(a,b,v1,vm) of a flat chain
+    flat-zero : flat site ≡ true → ofLink (v site 1, v site (m site)) ≡ pos 0
+    unfolding flat
+    flat-zero e = rw (last-point (m site) (omega (arith, many))) (same-zero _ (is-yes _ e))
+
+    -- the closing side of a ring goes twice, each way once; that of a flat chain has no D
+    closing-none : (closed : Bool) → not (closed || flat site) ≡ false → closingD closed +ℤ ofLink (v site 1, v site (m site)) ≡ pos 0
+    closing-none true e =
         let at = place (site .points) in
         let a = at (site .a) in
         let b = at (site .b) in
         let x = at (v site (m site)) in
         let y = at (v site 1) in
-        ap (λ z. D a b x y +ℤ z) (pqsr D-kept negℤ D-exchanged a b x y) ∙ +ℤ-invr (D a b x y)
+        ap (λ z. z +ℤ D a b y x) (+ℤ-idr (D a b x y)) ∙ turned-over a b x y
+    closing-none false e = +ℤ-idl (ofLink (v site 1, v site (m site))) ∙ flat-zero (not-false (flat site) e)
 
     new-total : totalD (site .points) (newRows site 1 t) +ℤ ofLink (v site 1, v site (m site)) ≡ chainD site 1 t
     new-total =
@@ -150,10 +184,10 @@ module _ (site : Site) where
     ring-total =
         ring-from
         (totalD (site .points) (newRows site 1 t) ∷ totalD (site .points) (site .removed) ∷ chainD site 1 t
-        ∷ ofLink (v site (m site), v site 1) ∷ ofLink (v site 1, v site (m site)) ∷ [])
+        ∷ closingD (site .closed) ∷ ofLink (v site 1, v site (m site)) ∷ [])
         (var 0) (var 1)
         (same (var 0 :+ var 4) (var 2) new-total ⊹ same (var 3 :+ var 2) (var 1) (sym removed-total)
-        ⊹ same (con (pos 0)) (var 3 :+ var 4) (sym closing-twice))
+        ⊹ same (con (pos 0)) (var 3 :+ var 4) (sym (closing-none (site .closed) level)))
         refl
 
     -- law 5: so the whole table keeps its total

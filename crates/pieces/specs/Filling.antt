@@ -5,7 +5,7 @@ use mathlib.Core.List.{List}
 use mathlib.Core.Option.{Option, none, some}
 use mathlib.Core.Path.{_≡_}
 use lib.Dec.{T, leb}
-use lib.ListN.{length, getD}
+use lib.ListN.{length, getD, set}
 use Rattle.lists.specs.Lists.{any}
 use Rattle.measure.specs.declared.Kind.{Kind}
 use Rattle.measure.specs.declared.Kind.the-variants.{Upright, Flat, Inverted}
@@ -180,6 +180,21 @@ pub record Done (site : Site) (filling : Filling) (i : ℕ) : Type 0 where
   pub known : (l e : ℕ) → i ≤ l → l + 2 ≤ e → e ≤ m site
       → KnownIn site (filling .kinds) (filling .nums) (filling .dens) (filling .used) l e
   pub apexes : (l e : ℕ) → i ≤ l → l + 2 ≤ e → e ≤ m site → apexIn (filling .apexes) l e ≡ apex site l e
+
+-- the table with the mark in a cell
+abbrev pub unsetAt : Filling → ℕ → Filling
+unsetAt filling at =
+    record {
+      kinds = set (filling .kinds) at 0;
+      nums = set (filling .nums) at 0;
+      dens = set (filling .dens) at 0;
+      apexes = set (filling .apexes) at 0;
+      used = filling .used;
+    }
+
+-- the same only where a kept row shuts the chain
+abbrev pub shutOff : Bool → Filling → ℕ → Filling
+shutOff shuts filling at = cond shuts (unsetAt filling at) filling
 
 -- ---- cells that are no piece's
 

@@ -4,8 +4,8 @@ ghost use Prim.Native.Nat.{_+_, _≤_};
 ghost use lib.ListN.{length, take};
 ghost use Rattle.mesh.specs.Keys.{mostKeys};
 ghost use Rattle.ring.specs.Ring.{Site, m as sizeOf, maxRing};
-ghost use Rattle.pieces.specs.Best.{Keeps};
-ghost use Rattle.pieces.specs.Filling.{Blank, Done, Given, Ready, Rimmed, cellOf, kindCode, siteIn};
+ghost use Rattle.pieces.specs.Best.{Keeps, cellAt};
+ghost use Rattle.pieces.specs.Filling.{Blank, Done, Given, Ready, Rimmed, cellOf, kindCode, shutOff, siteIn};
 use crate::CELLS;
 use crate::Cell;
 use crate::Choice;
@@ -16,6 +16,7 @@ use crate::candidates::cell_at;
 use crate::candidates::choose;
 use crate::gathered::gather;
 use crate::gathered::marks;
+use crate::gathered::uses_closing;
 use crate::gathered::uses_diagonal;
 use measure::Kind;
 use mesh::MOST_KEYS;
@@ -97,7 +98,24 @@ fn fill_row(
     next
 }
 
-// The best worst and the apex of every piece of a ring.
+// The table with the mark for piece (1,m), the whole of a chain, where a kept row shuts it.
+fn shut_off(filling: Filling, shuts: bool, m: usize) -> Filling
+    requires { ⌜ (1 ≤ m) × (m ≤ maxRing) ⌝ }
+    ensures { λ r. ⌜ r ≡ shutOff shuts filling (cellAt 1 m) ⌝ }
+{
+    if !shuts {
+        return filling;
+    }
+    let at = cell_at(1, m);
+    let mut next = filling;
+    next.kinds[at] = 0;
+    next.nums[at] = 0;
+    next.dens[at] = 0;
+    next.apexes[at] = 0;
+    next
+}
+
+// The best worst and the apex of every piece of a ring, or of a chain.
 pub fn fill(
     coordinates: &[u8],
     count: usize,
@@ -105,9 +123,10 @@ pub fn fill(
     n: usize,
     a: u8,
     b: u8,
+    closed: bool,
     ring: Ring,
 ) -> Pieces
-    requires { ⌜ Ready (now coordinates) count (now table) n a b ring ⌝ }
+    requires { ⌜ Ready (now coordinates) count (now table) n a b closed ring ⌝ }
     ensures { λ r. ⌜ Keeps (siteIn (now (coordinates .entry)) count (now (table .entry)) n a b) r ⌝ }
     ensures { λ r. ⌜ Blank (r .kinds) (r .nums) (r .dens) (r .apexes) (r .m) ⌝ }
 {
@@ -129,10 +148,12 @@ pub fn fill(
         i -= 1;
         filling = fill_row(filling, coordinates, rim, &kept.keys, found, m, i);
     }
-    let kinds = filling.kinds;
-    let nums = filling.nums;
-    let dens = filling.dens;
-    let apexes = filling.apexes;
+    let shuts = uses_closing(&kept.keys, found, closed, a, b, v[0], v[m - 1]);
+    let judged = shut_off(filling, shuts, m);
+    let kinds = judged.kinds;
+    let nums = judged.nums;
+    let dens = judged.dens;
+    let apexes = judged.apexes;
     Pieces {
         m,
         ring: v,

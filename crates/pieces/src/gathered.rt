@@ -1,11 +1,12 @@
 // The faces of kept rows that can matter, gathered once: those whose numbers are all among a, b, v1..vm.
 ghost use mathlib.Core.Path.{_≡_};
 ghost use mathlib.Core.List.{[], _∷_, _++_};
-ghost use mathlib.Core.Bool.{_||_};
+ghost use mathlib.Core.Bool.{false, cond, _||_};
 ghost use Prim.Native.Nat.{_+_, _*_, _<_, _≤_};
 ghost use lib.ListN.{length, take};
+ghost use Rattle.lists.specs.Lists.{has};
 ghost use Rattle.mesh.specs.Mesh.{rowSize, rowsIn};
-ghost use Rattle.mesh.specs.Keys.{mostRows, mostKeys, rowFaces};
+ghost use Rattle.mesh.specs.Keys.{mostRows, mostKeys, rowFaces, faceKey};
 ghost use Rattle.ring.specs.Ring.{maxRing};
 ghost use Rattle.pieces.specs.Gathered.{numbersOfAByte, Marks, keyed, keptOf, keptKeys, usedBy};
 use crate::Kept;
@@ -119,4 +120,29 @@ pub fn uses_diagonal(keys: &[u32; MOST_KEYS], n: usize, a: u8, b: u8, x: u8, y: 
         return true;
     }
     uses_either(keys, n, b, x, y)
+}
+
+// Whether one of the faces with which new rows close a chain from x to y, (a,x,y) and (b,y,x), is among the first n, in that
+// direction. Those of a closed ring are not looked up.
+pub fn uses_closing(
+    keys: &[u32; MOST_KEYS],
+    n: usize,
+    closed: bool,
+    a: u8,
+    b: u8,
+    x: u8,
+    y: u8,
+) -> bool
+    requires { ⌜ (length (now keys) ≡ mostKeys) × (n ≤ mostKeys) ⌝ }
+    ensures { λ r. ⌜ r
+        ≡ cond closed false
+        (has (take n (now (keys .entry))) (faceKey (a, x, y)) || has (take n (now (keys .entry))) (faceKey (b, y, x))) ⌝ }
+{
+    if closed {
+        return false;
+    }
+    if mesh::among(keys, n, mesh::face_key(a, x, y)) {
+        return true;
+    }
+    mesh::among(keys, n, mesh::face_key(b, y, x))
 }

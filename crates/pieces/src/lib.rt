@@ -1,4 +1,4 @@
-// The best triangulation of a ring: the table of its pieces, filled from the smaller to the larger, and the new rows it stands for.
+// The best triangulation of a ring or a chain: the table of its pieces, filled from the smaller to the larger, and the new rows it stands for.
 mod candidates;
 mod expanded;
 mod filled;
@@ -16,7 +16,8 @@ use ring::MAX_RING;
 pub const CELLS: usize = MAX_RING * MAX_RING;
 
 // The ring with, for every piece (i,j), its best worst and its chosen apex, at one place of four flat arrays.
-// kinds: 0 for the mark of a piece without an admissible triangulation, 1 inverted, 2 flat, 3 upright.
+// kinds: 0 for the mark of a piece without an admissible triangulation, or of a whole chain that a kept row shuts; 1 inverted, 2 flat,
+// 3 upright.
 pub struct Pieces {
     pub m: usize,
     pub ring: [u8; MAX_RING],

@@ -1,22 +1,22 @@
--- `fill` has filled the pieces that start from i on; at the end those from 1 on, which are all.
+-- `fill` has filled the pieces that start from i on; at the end those from 1 on, which are all; then the whole is judged.
 use Prim.Native.Nat.{_+_, _-_, _≤_, _<_}
-use mathlib.Core.Path.{_≡_}
+use mathlib.Core.Path.{_≡_, _∙_}
 use native.Mathlib.Omega.{arith}
 use denote.Ref.{now}
 use borrow.Author.Needs.{needs}
 use Rattle.pieces.specs.Filling.{Blank, Done, siteIn}
 use Rattle.pieces.proofs.Stored.{blank-start}
-use Rattle.pieces.proofs.Sites.{size-is, ring-is, rimmed, given, done-none, done-keeps}
+use Rattle.pieces.proofs.Sites.{size-is, ring-is, rimmed, given, shut-found, done-none, done-keeps, blank-shut}
 use Rattle.pieces.proofs.filled.fill.Statement.{statement}
 use Rattle.pieces.proofs.filled.fill.Tie as tie
 
 abbrev Inv-loop : tie.InvT-loop
-Inv-loop coordinates count table n a b m v rim kept found filling₀ i₀ filling i =
+Inv-loop coordinates count table n a b closed m v rim kept found filling₀ i₀ filling i =
     (1 ≤ i) × (i < m) × Done (siteIn coordinates count table n a b) filling i
     × Blank (filling .kinds) (filling .nums) (filling .dens) (filling .apexes) m
 
 abbrev μ-loop : tie.MeasureT-loop
-μ-loop coordinates count table n a b m v rim kept found filling₀ i₀ filling i = i
+μ-loop coordinates count table n a b closed m v rim kept found filling₀ i₀ filling i = i
 
 cast-m : tie.Need-cast-m Inv-loop μ-loop
 cast-m c = search needs
@@ -88,12 +88,47 @@ loop-again c =
       c .fill-row .ensures .1 (l .loop .inv .3),
     )
 
+array-read-uses-closing : tie.Need-array-read-uses-closing Inv-loop μ-loop
+array-read-uses-closing c = search needs
+
+sub-uses-closing : tie.Need-sub-uses-closing Inv-loop μ-loop
+sub-uses-closing c = omega arith
+
+array-read-uses-closing-2 : tie.Need-array-read-uses-closing-2 Inv-loop μ-loop
+array-read-uses-closing-2 c =
+    let ready = c .before .before .before .before .before .before .before .before .before .before .before .pre in
+    omega (arith, size-is ready, ready .short)
+
+uses-closing-requires : tie.Need-uses-closing-requires Inv-loop μ-loop
+uses-closing-requires c κs =
+    let g = c .before .before .before .before in
+    (g .gather .ensures .0, g .gather .ensures .1)
+
+shut-off-requires : tie.Need-shut-off-requires Inv-loop μ-loop
+shut-off-requires c κs =
+    let ready = c .before .before .before .before .before .before .before .before .before .before .before .before .pre in
+    (omega (arith, size-is ready, ready .long), omega (arith, size-is ready, ready .short))
+
 returns : tie.Need-returns Inv-loop μ-loop
 returns c =
-    let l = c .before .before .before .before .before in
-    let ready = l .before .before .before .before .before .before .before .before .pre in
-    let one : l .loop .i ≡ 1 = omega (arith, l .loop .inv .0, c .before .before .before .before .loop-test .left) in
-    (done-keeps (size-is ready) (ring-is ready) (rw one at (l .loop .inv .2)), l .loop .inv .3)
+    let off = c .before .before .before .before in
+    let look = off .before in
+    let end = look .before .before .before in
+    let l = end .before in
+    let g = l .before in
+    let marks = g .before .before in
+    let s = marks .before .before .before .before .before in
+    let ready = s .pre in
+    let one : l .loop .i ≡ 1 = omega (arith, l .loop .inv .0, end .loop-test .left) in
+    let size = size-is ready in
+    let shuts = look .uses-closing .ensures
+    ∙ shut-found ready (marks .marks .ensures) (λ j. omega (arith, marks .before .before .before .shared-slice-known2 .given j))
+    (g .gather .ensures .2) in
+    rw (off .shut-off .ensures) (
+      done-keeps (rw one at (l .loop .inv .2)) (ready .long) (ready .short) size (ring-is ready) shuts,
+      blank-shut (look .uses-closing .result) (l .loop .filling) (omega (arith, size, ready .long)) (omega (arith, size, ready .short))
+          (l .loop .inv .3),
+    )
 
 pub fill-spec : {M : Type 1} → statement M
 fill-spec =
@@ -110,4 +145,9 @@ fill-spec =
     fill-row-requires
     loop-less
     loop-again
+    array-read-uses-closing
+    sub-uses-closing
+    array-read-uses-closing-2
+    uses-closing-requires
+    shut-off-requires
     returns)
