@@ -80,9 +80,11 @@ enum {
     SUMPNEWT_FACE_TWICE = 8,     /* a directed face stands in two rows */
     SUMPNEWT_BAD_NUMBER = 9,     /* an edge or face number is not below the point count, or equal to another */
     SUMPNEWT_NOT_HELD = 10,      /* no row holds the edge or face */
-    SUMPNEWT_NOT_CLOSED = 11,    /* the tetrahedra round the edge do not all close (face: only one row) */
+    SUMPNEWT_NOT_CLOSED = 11,    /* the tetrahedra round the edge do not all close; removal: and are not one open chain
+                                    either (face: only one row) */
     SUMPNEWT_CIRCLES = 12,       /* they make more than one closed circle */
-    SUMPNEWT_RING_LENGTH = 13,   /* they are fewer than 3 or more than 10 (3-2 flip: not 3) */
+    SUMPNEWT_RING_LENGTH = 13,   /* the points round the edge are fewer than 3 or more than 10 (3-2 flip: not 3) */
+    SUMPNEWT_NOT_FLAT = 19,      /* removal: the ends of the open chain and of the edge are not in one plane */
     SUMPNEWT_ONE_APEX = 18,      /* 2-3 flip: both apexes are one point */
     SUMPNEWT_NO_ROOM = 14,       /* rows afterwards would be over 60 */
     SUMPNEWT_BLOCKED = 15,       /* no triangulation is admissible (2-3 flip: the mesh rule would break) */
@@ -129,8 +131,9 @@ uint32_t sumpnewt_summary(const uint8_t *block, size_t n, uint64_t *out, size_t 
 /*
  * Removes the edge between the points numbered a and b, in either order: of all ways to fill the room round it without
  * the edge that keep the mesh rule, the one whose worst tetrahedron is best, if that is better than the worst there now.
+ * The tetrahedra round the edge close, or they are one open chain between two outer faces that make one plane.
  * The new block has the kept rows in order, then the new rows with the region of the first removed row; points stay.
- * out_n must be 512. Answers 0 to 17.
+ * out_n must be 512. Answers 0 to 17 and 19.
  */
 uint32_t sumpnewt_remove(const uint8_t *block, size_t n, size_t a, size_t b, uint8_t *out, size_t out_n);
 
@@ -141,8 +144,8 @@ uint32_t sumpnewt_remove(const uint8_t *block, size_t n, size_t a, size_t b, uin
 uint32_t sumpnewt_page(const uint8_t *block, size_t n, size_t a, size_t b, double *row, size_t row_n);
 
 /*
- * Flips the three rows round the edge between a and b to two, whatever their quality.
- * out_n must be 512. Answers 0 to 13 and 15; 13 unless there are exactly three.
+ * Flips the three rows that close round the edge between a and b to two, whatever their quality.
+ * out_n must be 512. Answers 0 to 13 and 15; 11 for every open case, 13 unless there are exactly three.
  */
 uint32_t sumpnewt_flip_32(const uint8_t *block, size_t n, size_t a, size_t b, uint8_t *out, size_t out_n);
 

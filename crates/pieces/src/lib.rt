@@ -1,4 +1,5 @@
-// The best triangulation of a ring or a chain: the table of its pieces, filled from the smaller to the larger, and the new rows it stands for.
+// The best triangulation of a ring or a chain: the table of its pieces, filled from the smaller to the larger, and the new rows it
+// stands for.
 mod candidates;
 mod expanded;
 mod filled;
