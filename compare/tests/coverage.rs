@@ -4,7 +4,7 @@ use compare::gen::cases;
 use compare::tally::{Counts, Tally};
 use std::sync::LazyLock;
 
-static TALLY: LazyLock<Tally> = LazyLock::new(|| Tally::of(cases(1, 20_000)));
+static TALLY: LazyLock<Tally> = LazyLock::new(|| Tally::of(cases(1, 24_000)));
 
 /// The answers each call can get.
 const POSSIBLE: [(&str, &[usize]); 8] = [
@@ -25,7 +25,7 @@ const POSSIBLE: [(&str, &[usize]); 8] = [
 ];
 
 /// 17 is a guard that never stands in the way.
-const REMOVAL: [usize; 17] = [0, 1, 2, 3, 4, 5, 6, 7, 8, 9, 10, 11, 12, 13, 14, 15, 16];
+const REMOVAL: [usize; 18] = [0, 1, 2, 3, 4, 5, 6, 7, 8, 9, 10, 11, 12, 13, 14, 15, 16, 19];
 
 fn holds(name: &str, counts: &Counts, possible: &[usize], least: u64) {
     for (number, count) in counts.iter().enumerate() {
@@ -49,12 +49,26 @@ fn rings_of_every_length_get_every_outcome() {
     for (m, counts) in &TALLY.rings {
         let name = format!("m = {m}");
         match m {
-            3 | 4 => holds(&name, counts, &[0, 15, 16], 100),
+            3 | 4 => holds(&name, counts, &[0, 15, 16], 80),
             5..=10 => holds(&name, counts, &[0, 14, 15, 16], 80),
             _ => holds(&name, counts, &[13], 100),
         }
     }
     let lengths: Vec<usize> = TALLY.rings.keys().copied().collect();
+    assert_eq!(lengths, (2..=12).collect::<Vec<_>>());
+}
+
+#[test]
+fn chains_of_every_length_get_every_outcome() {
+    for (m, counts) in &TALLY.chains {
+        let name = format!("chain, m = {m}");
+        match m {
+            3 => holds(&name, counts, &[0, 15, 16, 19], 50),
+            4..=10 => holds(&name, counts, &[0, 14, 15, 16, 19], 30),
+            _ => holds(&name, counts, &[13], 80),
+        }
+    }
+    let lengths: Vec<usize> = TALLY.chains.keys().copied().collect();
     assert_eq!(lengths, (2..=12).collect::<Vec<_>>());
 }
 

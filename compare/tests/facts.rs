@@ -74,10 +74,11 @@ fn fact_6_octahedron_equal_is_not_better() {
 }
 
 #[test]
-fn fact_7_without_its_third_row_11() {
+fn fact_7_without_its_third_row_19_and_the_3_2_flip_11() {
     let mut open = block_a();
     open.rows.pop();
-    assert_eq!(remove_answer(&open, 0, 1), answer::OPEN);
+    assert_eq!(remove_answer(&open, 0, 1), answer::NOT_FLAT);
+    assert_eq!(flip_32_answer(&open, 0, 1), answer::OPEN);
 }
 
 #[test]

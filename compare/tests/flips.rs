@@ -53,7 +53,7 @@ fn pair(patch: &Patch, face: [usize; 3]) -> (Vec<Row>, [usize; 2]) {
 #[test]
 fn a_3_2_flip_undoes_a_2_3_flip() {
     let mut undone = 0;
-    for (block, face) in faces(8, 12_000) {
+    for (block, face) in faces(8, 15_000) {
         let (number, out) = flipped(&block, face);
         if number != 0 {
             continue;

@@ -5,7 +5,7 @@ mod common;
 use common::*;
 use compare::gen::cases;
 use compare::model::limits::INPUT_BYTES;
-use compare::model::{printout, remove, Call, PageRow, Patch, Row, Summary};
+use compare::model::{answer, printout, remove, Call, PageRow, Patch, Row, Summary};
 use std::ffi::OsStr;
 use std::fs;
 use std::path::{Path, PathBuf};
@@ -57,13 +57,28 @@ fn patch_of(text: &str) -> Patch {
     patch
 }
 
+/// The samples with the edge that their texts speak of, and the answer there.
+const SAMPLES: [(&str, u8, u8, u32); 5] = [
+    ("block_a", 0, 1, answer::DONE),
+    ("blocked", 0, 1, answer::NOT_ADMISSIBLE),
+    ("low_apex", 0, 1, answer::NONE_BETTER),
+    ("plate", 0, 1, answer::DONE),
+    ("sliver", 9, 27, answer::DONE),
+];
+
+/// The program's input for a sample.
+fn sample_input((name, a, b, _): (&str, u8, u8, u32)) -> Vec<u8> {
+    let path = house().join("samples").join(name).with_extension("patch");
+    [&fs::read(path).expect("a sample")[..], &[a, b]].concat()
+}
+
 fn samples() -> Vec<PathBuf> {
     let files = fs::read_dir(house().join("samples")).expect("samples/");
     let paths = files.map(|file| file.expect("an entry").path());
     let texts: Vec<PathBuf> = paths
         .filter(|path| path.extension() == Some(OsStr::new("txt")))
         .collect();
-    assert!(texts.len() >= 3);
+    assert_eq!(texts.len(), SAMPLES.len());
     texts
 }
 
@@ -78,6 +93,22 @@ fn a_sample_is_its_text() {
         printed("samples/make", &[copy.as_os_str()]);
         assert_eq!(fs::read(copy.with_extension("patch")).expect("made"), block);
     }
+}
+
+#[test]
+fn a_sample_has_the_answer_that_its_text_says() {
+    for sample in SAMPLES {
+        let (name, _, _, number) = sample;
+        let text = printout(&sample_input(sample));
+        assert!(
+            text.starts_with(&format!("answer {number}\n")),
+            "{name}: {text}"
+        );
+    }
+    assert_eq!(
+        fs::read(house().join("samples/plate.patch")).expect("a sample"),
+        plate().to_bytes()
+    );
 }
 
 #[test]
@@ -112,7 +143,8 @@ fn the_script_prints_the_models_printout() {
         Call::Printout { input } => Some(input),
         _ => None,
     });
-    for input in generated.filter(|input| input.len() >= 2).take(60) {
+    let generated = generated.filter(|input| input.len() >= 2).take(60);
+    for input in generated.chain(SAMPLES.map(sample_input)) {
         assert_eq!(printed_of(&input), printout(&input));
     }
     // Block A with its ends, cut short or with bytes behind it: no contract can say how much a program reads.

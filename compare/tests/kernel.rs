@@ -99,12 +99,14 @@ mod held {
 
     #[test]
     fn on_every_change_of_one_byte_with_its_sums_made_anew() {
-        let fields = block_a().to_bytes()[..FIELD_BYTES].to_vec();
-        let calls = changes(&fields).flat_map(|other| {
-            let fields: [u8; FIELD_BYTES] = other.try_into().expect("as many bytes");
-            calls_on(&with_sums(&fields), [0, 1, 2])
-        });
-        Held::of(calls).expect(255 * 508 * 7);
+        for patch in [block_a(), plate()] {
+            let fields = patch.to_fields();
+            let calls = changes(&fields).flat_map(|other| {
+                let fields: [u8; FIELD_BYTES] = other.try_into().expect("as many bytes");
+                calls_on(&with_sums(&fields), [0, 1, 2])
+            });
+            Held::of(calls).expect(255 * 508 * 7);
+        }
     }
 
     #[test]

@@ -31,7 +31,7 @@ fn block_a_prints_document_01s_lines() {
 fn a_refusal_prints_one_line() {
     assert_eq!(printout(&input(&block_a(), 0, 0)), "answer 9\n");
     assert_eq!(printout(&input(&block_a(), 0, 255)), "answer 9\n");
-    assert_eq!(printout(&input(&block_a(), 2, 3)), "answer 11\n");
+    assert_eq!(printout(&input(&block_a(), 2, 3)), "answer 13\n");
     let mut wrong_sum = input(&block_a(), 0, 1);
     wrong_sum[511] ^= 1;
     assert_eq!(printout(&wrong_sum), "answer 2\n");

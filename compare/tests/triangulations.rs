@@ -3,11 +3,13 @@
 mod common;
 
 use common::*;
+use compare::model::mesh::{faces, turned, Face};
 use compare::model::pieces::{
-    piece_admissible, ring_admissible, Pieces, TriangleWorsts, UsedFaces,
+    closing_faces, piece_admissible, ring_admissible, Pieces, TriangleWorsts, UsedFaces,
 };
 use compare::model::removal::{removable_site, total_d};
 use compare::model::triangulations::{diagonals, new_rows, ways};
+use compare::model::Row;
 use std::collections::{HashMap, HashSet};
 
 #[test]
@@ -43,6 +45,7 @@ fn each_has_m_minus_2_triangles_every_side_once_and_every_diagonal_twice() {
 
 #[test]
 fn total_d_is_kept_by_every_triangulation() {
+    let mut chains = 0;
     for (patch, [a, b]) in edges(18, 1_500) {
         let Ok(site) = removable_site(&patch, a, b) else {
             continue;
@@ -51,27 +54,41 @@ fn total_d_is_kept_by_every_triangulation() {
             let after = site.patch_after(&patch, &new_rows(&site, way));
             assert_eq!(total_d(&after), total_d(&patch));
         }
+        chains += usize::from(!site.closed);
     }
+    assert!(chains > 50, "{chains}");
+}
+
+/// Does one of the rows have this directed face?
+fn stands(rows: &[Row], face: Face) -> bool {
+    let all = rows.iter().flat_map(|row| faces(row.numbers));
+    all.map(turned).any(|other| other == face)
 }
 
 #[test]
 fn admissible_by_the_whole_table_is_admissible_by_faces() {
-    let (mut yes, mut no) = (0, 0);
+    let (mut yes, mut no) = ([0; 2], [0; 2]);
     for (patch, [a, b]) in edges(19, 2_000) {
         let Ok(site) = removable_site(&patch, a, b) else {
             continue;
         };
         let used = UsedFaces::of(&site.kept);
+        let shut = !site.closed
+            && closing_faces(&site)
+                .iter()
+                .any(|face| stands(&site.kept, *face));
         for way in ways(1, site.m()) {
             let by_table = ring_admissible(&patch, &site, way);
-            assert_eq!(by_table, piece_admissible(&site, &used, 1, site.m(), way));
-            match by_table {
-                true => yes += 1,
-                false => no += 1,
-            }
+            let by_faces = piece_admissible(&site, &used, 1, site.m(), way);
+            assert_eq!(by_table, by_faces && !shut);
+            let seen = match by_table {
+                true => &mut yes,
+                false => &mut no,
+            };
+            seen[usize::from(site.closed)] += 1;
         }
     }
-    assert!(yes > 1_000 && no > 1_000);
+    assert!(yes.into_iter().chain(no).all(|seen| seen > 1_000));
 }
 
 #[test]

@@ -25,15 +25,19 @@ const POSSIBLE: [&[u32]; CALLS.len()] = [
     &[0, 1, 2, 3, 4, 5, 6, 7, 8],
     &[0, 1, 3, 4, 5, 6, 7, 8],
     &[0, 1, 2, 3, 4, 5, 6, 7, 8],
-    &[0, 1, 2, 3, 4, 5, 6, 7, 8, 9, 10, 11, 12, 13, 14, 15, 16],
+    &[0, 1, 2, 3, 4, 5, 6, 7, 8, 9, 10, 11, 12, 13, 14, 15, 16, 19],
     &[0, 1, 2, 3, 4, 5, 6, 7, 8, 9, 10, 11, 12, 13, 15],
     &[0, 1, 2, 3, 4, 5, 6, 7, 8, 9, 10, 11, 14, 15, 18],
 ];
 
 /// Two cases or more show it.
 fn shows(reason: &str) {
+    shows_often(reason, 2);
+}
+
+fn shows_often(reason: &str, least: usize) {
     let count = SHOWN.get(reason).copied().unwrap_or(0);
-    assert!(count >= 2, "{reason}: {count}");
+    assert!(count >= least, "{reason}: {count}");
 }
 
 #[test]
@@ -58,18 +62,49 @@ fn every_call_gives_every_answer_it_can() {
 }
 
 #[test]
-fn rings_of_every_length_get_every_outcome() {
+fn rings_and_chains_of_every_length_get_every_outcome() {
     for m in 3..=10 {
         for answer in [0, 15, 16] {
-            shows(&format!("m = {m}: {answer}"));
+            shows(&format!("ring, m = {m}: {answer}"));
+            shows_often(&format!("chain, m = {m}: {answer}"), 1);
         }
+        shows_often(&format!("chain, m = {m}: 19"), 1);
     }
     for m in 5..=10 {
-        shows(&format!("m = {m}: 14"));
+        shows(&format!("ring, m = {m}: 14"));
+    }
+    for m in 4..=10 {
+        shows_often(&format!("chain, m = {m}: 14"), 1);
     }
     for m in [2, 11, 12] {
-        shows(&format!("m = {m}: 13"));
+        shows(&format!("ring, m = {m}: 13"));
+        shows_often(&format!("chain, m = {m}: 13"), 1);
     }
+}
+
+#[test]
+fn chains_are_flat_bent_shut_and_not_alone() {
+    let points = [
+        "11: two chains",
+        "11: a chain and a circle",
+        "11: a chain and two circles",
+        "3-2 flip, 11: a flat chain of 3",
+        "chain, 0: v1 is the smallest",
+        "chain, 0: v1 is not the smallest",
+        "chain, 0: v1 is larger than vm",
+        "chain, 0: face of a used against",
+        "chain, 0: face of b used against",
+        "chain, 0: both used against",
+        "chain, 0: outer places coincide",
+        "chain, 15 by a's face",
+        "chain, 15 by b's face",
+        "chain, 15 by both faces",
+        "chain, 15 by a face used both ways",
+        "chain, 16: outer places coincide",
+        "chain, 19 and 14 at once",
+        "chain, 19: D is 1 to 128 in size",
+    ];
+    points.into_iter().for_each(shows);
 }
 
 #[test]

@@ -58,7 +58,7 @@ fn ring_of(
 }
 
 /// The places turned, enlarged and shifted inside the box; handedness stays.
-fn moved(random: &mut Random, places: &[Point]) -> Vec<Point> {
+pub fn moved(random: &mut Random, places: &[Point]) -> Vec<Point> {
     let (axes, even) = random.pick(&AXIS_ORDERS);
     let mut mirror = [random.percent(50), random.percent(50), false];
     mirror[2] = mirror[0] ^ mirror[1] ^ !even;

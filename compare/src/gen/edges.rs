@@ -1,4 +1,4 @@
-//! Edges without one closed ring of 3 to 10: answers 9 to 13.
+//! Edges with neither one closed ring of 3 to 10 nor one chain: answers 9 to 13.
 
 use super::obstacles::fill;
 use super::random::Random;
@@ -28,22 +28,21 @@ fn with_links(random: &mut Random, points: usize, links: &[(u8, u8)]) -> Call {
     edge_call(random, &finished)
 }
 
-/// Chains (11), a circle beside a chain (11), several circles (12).
+/// Two chains (11), a circle beside a chain (11), several circles (12).
 pub fn open_or_many(random: &mut Random) -> (Call, Option<u32>) {
     let first = random.within(2..=11);
     let second = first + random.within(2..=11);
     let third = second + random.within(2..=5);
-    let (links, number) = match random.below(5) {
-        0 => (chain(&span(0, first)), answer::OPEN),
-        1 => {
+    let (links, number) = match random.below(4) {
+        0 => {
             let two = [chain(&span(0, first)), chain(&span(first, second))];
             (two.concat(), answer::OPEN)
         }
-        2 => {
+        1 => {
             let both = [circle(&span(0, first)), chain(&span(first, second))];
             (both.concat(), answer::OPEN)
         }
-        3 => {
+        2 => {
             let two = [circle(&span(0, first)), circle(&span(first, second))];
             (two.concat(), answer::CIRCLES)
         }

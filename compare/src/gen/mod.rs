@@ -1,11 +1,13 @@
 //! Seeded cases: one call each, with all its inputs.
 
 mod bad_blocks;
+mod chains;
 mod close;
 mod edges;
 mod faces;
 mod lattice;
 mod obstacles;
+mod plates;
 mod random;
 mod rings;
 mod scene;
@@ -28,22 +30,27 @@ pub struct Case {
 type Family = (&'static str, usize, fn(&mut Random) -> (Call, Option<u32>));
 
 /// The families of cases and how many in a hundred each gets.
-const FAMILIES: [Family; 18] = [
-    ("rings", 25, rings::ring),
-    ("full tables", 9, rings::full_table),
-    ("three", 3, rings::three),
+const FAMILIES: [Family; 23] = [
+    ("rings", 17, rings::ring),
+    ("full tables", 7, rings::full_table),
+    ("three", 2, rings::three),
     ("rounding", 3, close::close),
     ("equal fractions", 2, close::equal),
-    ("chains and circles", 7, edges::open_or_many),
-    ("ring lengths", 4, edges::short_or_long),
-    ("ends", 4, edges::bad_ends),
+    ("flat chains", 6, chains::flat),
+    ("closing faces", 5, chains::closing),
+    ("full tables, chains", 4, chains::full_table),
+    ("bent chains", 2, chains::bent),
+    ("chain lengths", 2, chains::short_or_long),
+    ("chains and circles", 5, edges::open_or_many),
+    ("ring lengths", 3, edges::short_or_long),
+    ("ends", 3, edges::bad_ends),
     ("edges not held", 2, edges::not_held),
-    ("faces", 10, faces::face),
+    ("faces", 8, faces::face),
     ("lattice", 5, lattice::lattice),
     ("summaries", 4, summaries::summary),
     ("sealing", 3, summaries::sealing),
-    ("one fault", 8, bad_blocks::one_fault),
-    ("several faults", 4, bad_blocks::several_faults),
+    ("one fault", 7, bad_blocks::one_fault),
+    ("several faults", 3, bad_blocks::several_faults),
     ("faulty fields", 3, bad_blocks::faulty_fields),
     ("lengths", 3, bad_blocks::lengths),
     ("raw bytes", 1, bad_blocks::raw),

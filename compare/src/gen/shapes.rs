@@ -6,10 +6,10 @@ use crate::model::limits::MAX_COORDINATE;
 use crate::model::Point;
 
 /// The middle of the box, on each axis.
-const MIDDLE: u8 = MAX_COORDINATE / 2;
+pub const MIDDLE: u8 = MAX_COORDINATE / 2;
 
 /// A thousand times cosine and sine of each twentieth of a circle.
-const CIRCLE: [(i64, i64); 20] = [
+pub const CIRCLE: [(i64, i64); 20] = [
     (1000, 0),
     (951, 309),
     (809, 588),
@@ -81,11 +81,11 @@ fn wheel(random: &mut Random, m: usize, lean: usize) -> Vec<Point> {
     let (towards_x, towards_y) = random.pick(&CIRCLE);
     let (x, y) = (away * towards_x / 1000, away * towards_y / 1000);
     let (up, down) = (random.within(4..=60) as i64, random.within(4..=60) as i64);
-    let mut places = vec![middle(x, y, up), middle(x, y, -down)];
+    let mut places = vec![from_middle(x, y, up), from_middle(x, y, -down)];
     for step in 0..m {
         let (cosine, sine) = CIRCLE[step * CIRCLE.len() / m.max(1) % CIRCLE.len()];
         let [dx, dy, dz] = [0; 3].map(|_| random.within(0..=2 * jitter) as i64 - jitter as i64);
-        places.push(middle(
+        places.push(from_middle(
             radius * cosine / 1000 + dx,
             radius * sine / 1000 + dy,
             dz,
@@ -149,7 +149,7 @@ fn level(random: &mut Random, m: usize) -> Vec<Point> {
 }
 
 /// Coordinates from a few values, somewhere in the box.
-fn crowded(random: &mut Random, m: usize) -> Vec<Point> {
+pub fn crowded(random: &mut Random, m: usize) -> Vec<Point> {
     let values = random.within(2..=6);
     let step = random.within(1..=usize::from(MAX_COORDINATE) / (values - 1));
     let shift = random.within(0..=usize::from(MAX_COORDINATE) - step * (values - 1));
@@ -160,6 +160,6 @@ fn crowded(random: &mut Random, m: usize) -> Vec<Point> {
 }
 
 /// A place given from the middle of the box.
-fn middle(x: i64, y: i64, z: i64) -> Point {
+pub fn from_middle(x: i64, y: i64, z: i64) -> Point {
     [x, y, z].map(|c| (c + i64::from(MIDDLE)).clamp(0, i64::from(MAX_COORDINATE)) as u8)
 }

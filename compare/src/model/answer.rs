@@ -22,11 +22,11 @@ pub const FACE_TWICE: u32 = 8;
 pub const BAD_NUMBER: u32 = 9;
 /// No row holds the edge or face.
 pub const NOT_HELD: u32 = 10;
-/// The links do not all close (face: only one row).
+/// The links do not all close and are not one chain (3-2 flip: they do not all close; face: only one row).
 pub const OPEN: u32 = 11;
 /// More than one closed circle.
 pub const CIRCLES: u32 = 12;
-/// m below 3 or over 10 (3-2 flip: m not 3).
+/// m below 3 or over 10, counted in points of the ring or the chain (3-2 flip: m not 3).
 pub const RING_LENGTH: u32 = 13;
 /// Rows afterwards would be over 60.
 pub const ROOM: u32 = 14;
@@ -38,3 +38,5 @@ pub const NONE_BETTER: u32 = 16;
 pub const TOTAL_DIFFERS: u32 = 17;
 /// 2-3 only: both apexes are one point. Tested between 13 and 14.
 pub const ONE_APEX: u32 = 18;
+/// Removal only: the chain is not flat. Tested between 13 and 14.
+pub const NOT_FLAT: u32 = 19;

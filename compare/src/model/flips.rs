@@ -8,7 +8,7 @@ use super::pieces::ring_admissible;
 use super::ring::site;
 use super::triangulations::{new_rows, ways};
 
-/// "3-2: removal of an edge with m = 3." Writes the block afterwards and answers 0, or refuses.
+/// "3-2: removal of an edge with m = 3", of a ring alone. Writes the block afterwards and answers 0, or refuses.
 pub fn flip_32(block: &[u8], a: usize, b: usize, out: &mut [u8]) -> u32 {
     written(block, out, |patch| three_to_two(patch, a, b))
 }
@@ -35,6 +35,9 @@ fn written(block: &[u8], out: &mut [u8], flip: impl Fn(&Patch) -> Result<Patch, 
 /// Answers 9 to 13 and 15. The table gets one row shorter, so 14 never comes.
 fn three_to_two(patch: &Patch, a: usize, b: usize) -> Result<Patch, u32> {
     let site = site(patch, a, b)?;
+    if !site.closed {
+        return Err(answer::OPEN);
+    }
     if site.m() != SHORTEST_RING {
         return Err(answer::RING_LENGTH);
     }

@@ -3,7 +3,7 @@
 use super::block::Patch;
 use super::limits::LONGEST_RING;
 use super::measure::Quality;
-use super::mesh::{faces, mesh_rule, Numbers, Row};
+use super::mesh::{faces, mesh_rule, turned, Face, Numbers, Row};
 use super::ring::Site;
 use super::triangulations::{diagonals, new_rows, rows_of, ways, Triangle, Triangulation};
 use std::collections::{HashMap, HashSet};
@@ -29,6 +29,13 @@ pub fn piece_admissible(
         used.uses(site.a, v, w) || used.uses(site.b, v, w)
     };
     !way.iter().any(triangle_used) && !diagonals(i, j, way).into_iter().any(diagonal_used)
+}
+
+/// "the faces a v1 vm and b v1 vm count too, each only in the direction its new row uses": what the mesh rule asks of a whole
+/// chain beyond `piece_admissible`.
+pub fn closing_faces(site: &Site) -> [Face; 2] {
+    let (v1, vm) = (site.v(1), site.v(site.m()));
+    [[site.a, v1, vm], [site.b, vm, v1]].map(turned)
 }
 
 /// The faces that a list of rows uses, "either way round".
@@ -67,7 +74,7 @@ pub struct Pieces {
 }
 
 impl Pieces {
-    /// The whole ring is judged by the mesh rule of the whole table, each lower piece by itself.
+    /// The whole ring or chain is judged by the mesh rule of the whole table, each lower piece by itself.
     pub fn of(patch: &Patch, site: &Site) -> Pieces {
         let m = site.m();
         let used = UsedFaces::of(&site.kept);

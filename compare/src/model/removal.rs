@@ -1,4 +1,4 @@
-//! Removal of one edge: answers 1 to 17.
+//! Removal of one edge: answers 1 to 17 and 19.
 
 use super::answer;
 use super::block::{open, Patch};
@@ -30,7 +30,7 @@ pub fn remove(block: &[u8], a: usize, b: usize, out: &mut [u8]) -> Result<Remova
     Ok(removal)
 }
 
-/// The removal from an opened patch: answers 9 to 17.
+/// The removal from an opened patch: answers 9 to 17 and 19.
 pub fn removal(before: Patch, a: usize, b: usize) -> Result<Removal, u32> {
     let site = removable_site(&before, a, b)?;
     let pieces = Pieces::of(&before, &site);
@@ -57,11 +57,14 @@ pub fn removal(before: Patch, a: usize, b: usize) -> Result<Removal, u32> {
     })
 }
 
-/// The site of the edge, or the first of the answers 9 to 14.
+/// The site of the edge, or the first of the answers 9 to 13, 19 and 14.
 pub fn removable_site(patch: &Patch, a: usize, b: usize) -> Result<Site, u32> {
     let site = site(patch, a, b)?;
     if !(SHORTEST_RING..=LONGEST_RING).contains(&site.m()) {
         return Err(answer::RING_LENGTH);
+    }
+    if !site.closed && !is_flat(patch, &site) {
+        return Err(answer::NOT_FLAT);
     }
     let triangles = site.m() - 2;
     if site.kept.len() + 2 * triangles > MAX_ROWS {
@@ -70,13 +73,19 @@ pub fn removable_site(patch: &Patch, a: usize, b: usize) -> Result<Site, u32> {
     Ok(site)
 }
 
+/// "D(a,b,v1,vm) is 0".
+pub fn is_flat(patch: &Patch, site: &Site) -> bool {
+    let outer = [site.a, site.b, site.v(1), site.v(site.m())];
+    determinant(outer.map(|number| patch.points[usize::from(number)])) == 0
+}
+
 /// The quality that a replacement has to be better than: that of the worst removed row.
 pub fn worst_removed(patch: &Patch, site: &Site) -> Quality {
     let qualities = site
         .removed
         .iter()
         .map(|row| Quality::of(patch.corners(row)));
-    qualities.min().expect("a ring has rows")
+    qualities.min().expect("an edge that is held has rows")
 }
 
 /// The total D of all rows.

@@ -1,4 +1,4 @@
-//! The links round an edge, and the ring they close to: answers 9 to 12.
+//! The links round an edge, and the ring or the chain they make: answers 9 to 12.
 
 use super::answer;
 use super::block::Patch;
@@ -11,7 +11,7 @@ pub struct Link {
     pub w: u8,
 }
 
-/// An edge whose rows close to one ring.
+/// An edge whose rows make one ring or one open chain.
 #[derive(Clone, Debug)]
 pub struct Site {
     /// "The edge's two ends are put in order, a < b".
@@ -19,6 +19,8 @@ pub struct Site {
     pub b: u8,
     /// v1 to vm.
     pub ring: Vec<u8>,
+    /// A ring, and no chain.
+    pub closed: bool,
     /// The rows that hold both ends, in the table's order.
     pub removed: Vec<Row>,
     /// All other rows, in the table's order.
@@ -28,7 +30,7 @@ pub struct Site {
 }
 
 impl Site {
-    /// m, the length of the ring.
+    /// m, the length of the ring or the chain in points.
     pub fn m(&self) -> usize {
         self.ring.len()
     }
@@ -64,19 +66,17 @@ pub fn site(patch: &Patch, end: usize, other_end: usize) -> Result<Site, u32> {
         return Err(answer::NOT_HELD);
     }
     let links: Vec<Link> = removed.iter().map(|row| link(row.numbers, a, b)).collect();
-    if links.iter().any(|first| walk(&links, *first).is_none()) {
-        return Err(answer::OPEN);
-    }
-    let first = links.iter().min_by_key(|link| link.v).expect("some link");
-    let ring = walk(&links, *first).expect("every link closes");
-    if ring.len() < links.len() {
-        return Err(answer::CIRCLES);
-    }
+    let closed = links.iter().all(|first| walk(&links, *first).closed);
+    let ring = match closed {
+        true => ring_of(&links)?,
+        false => chain_of(&links)?,
+    };
     let region = removed[0].region;
     Ok(Site {
         a,
         b,
         ring,
+        closed,
         removed,
         kept,
         region,
@@ -90,15 +90,54 @@ pub fn link(numbers: Numbers, a: u8, b: u8) -> Link {
     Link { v, w }
 }
 
+/// "The ring starts at its smallest point number, v1, and follows the links to vm": every link closes.
+fn ring_of(links: &[Link]) -> Result<Vec<u8>, u32> {
+    let first = links.iter().min_by_key(|link| link.v).expect("some link");
+    let ring = walk(links, *first).points;
+    match ring.len() == links.len() {
+        true => Ok(ring),
+        false => Err(answer::CIRCLES),
+    }
+}
+
+/// "The chain keeps its own start and end": the one walk from a point that no link enters takes every link.
+fn chain_of(links: &[Link]) -> Result<Vec<u8>, u32> {
+    let entered = |point: u8| links.iter().any(|link| link.w == point);
+    let starts: Vec<&Link> = links.iter().filter(|link| !entered(link.v)).collect();
+    let [first] = starts[..] else {
+        return Err(answer::OPEN);
+    };
+    let chain = walk(links, *first).points;
+    match chain.len() == links.len() + 1 {
+        true => Ok(chain),
+        false => Err(answer::OPEN),
+    }
+}
+
+/// The points that a walk meets, and whether it came back to its start.
+struct Walk {
+    points: Vec<u8>,
+    closed: bool,
+}
+
 /// "The walk round the edge ends at the first missing link, or when it is back at its start."
 /// In a table that keeps the mesh rule a point starts at most one link and ends at most one, so a
 /// walk meets no point twice before its start.
-fn walk(links: &[Link], first: Link) -> Option<Vec<u8>> {
-    let mut circle = vec![first.v];
+fn walk(links: &[Link], first: Link) -> Walk {
+    let mut points = vec![first.v];
     let mut at = first.w;
     while at != first.v {
-        circle.push(at);
-        at = links.iter().find(|link| link.v == at)?.w;
+        points.push(at);
+        let Some(link) = links.iter().find(|link| link.v == at) else {
+            return Walk {
+                points,
+                closed: false,
+            };
+        };
+        at = link.w;
     }
-    Some(circle)
+    Walk {
+        points,
+        closed: true,
+    }
 }

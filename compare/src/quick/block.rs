@@ -117,7 +117,7 @@ fn a_face_stands_twice(rows: &[RowBytes]) -> bool {
 }
 
 /// The face as one number, the same for its three turns.
-fn key([p, q, r]: [u8; 3]) -> u32 {
+pub fn key([p, q, r]: [u8; 3]) -> u32 {
     let turns = [[0, p, q, r], [0, q, r, p], [0, r, p, q]];
     let [a, b, c] = turns.map(u32::from_be_bytes);
     a.min(b).min(c)

@@ -1,7 +1,8 @@
-//! The table of pieces: the best worst and the apex of every piece of a ring, from the smaller to the larger.
+//! The table of pieces: the best worst and the apex of every piece of a ring or a chain, from the smaller to the larger.
 
-use super::block::{numbers, Fields, RowBytes};
+use super::block::{key, numbers, Fields, RowBytes};
 use super::measure::Quality;
+use super::ring::Ring;
 use crate::model::limits::{LONGEST_RING, MAX_ROWS};
 use crate::model::Point;
 
@@ -15,9 +16,10 @@ pub struct Best {
 /// The piece (i,j) of ring places counted from 0, or the mark.
 pub type Pieces = [[Option<Best>; LONGEST_RING]; LONGEST_RING];
 
-/// The table of the ring round the edge a, b.
+/// The table of the ring or the chain round the edge a, b.
 #[inline(never)]
-pub fn fill(fields: Fields, a: u8, b: u8, ring: &[u8]) -> Pieces {
+pub fn fill(fields: Fields, a: u8, b: u8, found: &Ring) -> Pieces {
+    let ring = found.points();
     let used = UsedFaces::of(fields.rows, a, b, ring);
     let at = |number: u8| fields.points[usize::from(number)];
     let (a_point, b_point) = (at(a), at(b));
@@ -54,7 +56,25 @@ pub fn fill(fields: Fields, a: u8, b: u8, ring: &[u8]) -> Pieces {
             sides[i][j] = best.filter(|_| free).map(|best| best.worst);
         }
     }
+    let (v1, vm) = (ring[0], ring[ring.len() - 1]);
+    if !found.closed && (stands(fields.rows, [a, v1, vm]) || stands(fields.rows, [b, vm, v1])) {
+        pieces[0][ring.len() - 1] = None;
+    }
     pieces
+}
+
+/// Whether a row has the directed face. No row round the edge of a chain holds both v1 and vm.
+fn stands(rows: &[RowBytes], face: [u8; 3]) -> bool {
+    let sought = set(&face);
+    let turned = key(face);
+    let mut holding = rows
+        .iter()
+        .map(numbers)
+        .filter(|row| set(row) & sought == sought);
+    holding.any(|[p, q, r, s]| {
+        let faces = [[q, r, s], [p, s, r], [p, q, s], [p, r, q]];
+        faces.into_iter().any(|face| key(face) == turned)
+    })
 }
 
 /// The faces of kept rows over a, b and the ring, either way round: each is the set of its three points.

@@ -1,4 +1,4 @@
-//! Removal of one edge: answers 1 to 17, the page row and the block afterwards.
+//! Removal of one edge: answers 1 to 17 and 19, the page row and the block afterwards.
 
 use super::block::{numbers, opened, seal, Fields, RowBytes};
 use super::measure::{volume, Quality};
@@ -11,7 +11,7 @@ use crate::model::PageRow;
 /// Twice the triangles of the longest ring.
 const MOST_NEW_ROWS: usize = 2 * (LONGEST_RING - 2);
 
-/// An edge with its ring in an opened block.
+/// An edge with its ring or chain in an opened block.
 struct Site<'a> {
     fields: Fields<'a>,
     a: u8,
@@ -20,7 +20,7 @@ struct Site<'a> {
 }
 
 impl<'a> Site<'a> {
-    /// The site of the edge between two points, or the first of the answers 2 to 13.
+    /// The site of the edge between two points, or the first of the answers 2 to 13 and 19.
     fn of(block: &'a [u8; BLOCK_BYTES], end: usize, other_end: usize) -> Result<Site<'a>, u32> {
         let fields = opened(block)?;
         let count = fields.points.len();
@@ -29,7 +29,18 @@ impl<'a> Site<'a> {
         }
         let (a, b) = (end.min(other_end) as u8, end.max(other_end) as u8);
         let ring = Ring::find(fields.rows, a, b)?;
-        Ok(Site { fields, a, b, ring })
+        let site = Site { fields, a, b, ring };
+        match site.ring.closed || site.is_flat() {
+            true => Ok(site),
+            false => Err(answer::NOT_FLAT),
+        }
+    }
+
+    /// Whether both ends lie in one plane with v1 and vm.
+    fn is_flat(&self) -> bool {
+        let ring = self.ring.points();
+        let outer = [self.a, self.b, ring[0], ring[ring.len() - 1]];
+        volume(outer.map(|number| self.fields.points[usize::from(number)])) == 0
     }
 }
 
@@ -89,10 +100,14 @@ pub fn remove(block: &[u8], end: usize, other_end: usize, out: &mut [u8]) -> Res
     let site = Site::of(block, end, other_end)?;
     let Site { fields, a, b, .. } = site;
     let m = site.ring.points().len();
-    if fields.rows.len() - m + 2 * (m - 2) > MAX_ROWS {
+    let going = match site.ring.closed {
+        true => m,
+        false => m - 1,
+    };
+    if fields.rows.len() - going + 2 * (m - 2) > MAX_ROWS {
         return Err(answer::ROOM);
     }
-    let pieces = fill(fields, a, b, site.ring.points());
+    let pieces = fill(fields, a, b, &site.ring);
     let Some(best) = pieces[0][m - 1] else {
         return Err(answer::NOT_ADMISSIBLE);
     };
@@ -140,7 +155,7 @@ fn write(
     seal(out);
 }
 
-/// The length of the ring round an edge; 0 where there is none.
+/// The length of the ring or the flat chain round an edge; 0 where there is none.
 #[inline(never)]
 pub fn ring_length(block: &[u8], end: usize, other_end: usize) -> u64 {
     let block = block.try_into().ok();
@@ -148,14 +163,14 @@ pub fn ring_length(block: &[u8], end: usize, other_end: usize) -> u64 {
     site.map_or(0, |site| site.ring.points().len() as u64)
 }
 
-/// The apex of that ring, counted from 1, by the table of its pieces; 0 where there is none.
+/// Its apex, counted from 1, by the table of its pieces; 0 where there is none.
 #[inline(never)]
 pub fn top_apex(block: &[u8], end: usize, other_end: usize) -> u64 {
     let block = block.try_into().ok();
     let Some(site) = block.and_then(|block| Site::of(block, end, other_end).ok()) else {
         return 0;
     };
-    let ring = site.ring.points();
-    let pieces = fill(site.fields, site.a, site.b, ring);
-    pieces[0][ring.len() - 1].map_or(0, |best| u64::from(best.apex) + 1)
+    let pieces = fill(site.fields, site.a, site.b, &site.ring);
+    let last = site.ring.points().len() - 1;
+    pieces[0][last].map_or(0, |best| u64::from(best.apex) + 1)
 }

@@ -1,4 +1,4 @@
-//! The ring round an edge: where each link goes, and the points that links leave and reach as bits.
+//! The ring or the chain round an edge: where each link goes, and the points that links leave and reach as bits.
 
 use super::block::RowBytes;
 use crate::model::answer;
@@ -12,9 +12,10 @@ const BEHIND: [[[usize; 2]; 4]; 4] = [
     [[2, 1], [0, 2], [1, 0], [0, 0]],
 ];
 
-/// v1 to vm.
+/// v1 to vm, and whether a link leads back from vm to v1.
 pub struct Ring {
     m: usize,
+    pub closed: bool,
     points: [u8; LONGEST_RING],
 }
 
@@ -23,8 +24,9 @@ impl Ring {
         &self.points[..self.m]
     }
 
-    /// The ring round the edge a, b in a table that keeps the mesh rule, or the first of the answers 10 to 13.
-    /// A point starts at most one link and ends at most one, so all links close when the same points do both.
+    /// The ring or the chain round the edge a, b in a table that keeps the mesh rule, or the first of the answers 10 to 13.
+    /// A point starts at most one link and ends at most one, so all links close when the same points do both, and each
+    /// point that only starts one is the start of a chain.
     pub fn find(rows: &[RowBytes], a: u8, b: u8) -> Result<Ring, u32> {
         let mut next = [0; MAX_POINTS];
         let (mut starts, mut ends) = (0u64, 0u64);
@@ -36,12 +38,14 @@ impl Ring {
         if starts == 0 {
             return Err(answer::NOT_HELD);
         }
-        if starts != ends {
-            return Err(answer::OPEN);
-        }
-        let first = starts.trailing_zeros() as u8;
+        let closed = starts == ends;
+        let first = match closed {
+            true => starts.trailing_zeros() as u8,
+            false => (starts & !ends).trailing_zeros() as u8,
+        };
         let mut ring = Ring {
             m: 0,
+            closed,
             points: [0; LONGEST_RING],
         };
         let mut here = first;
@@ -50,13 +54,19 @@ impl Ring {
                 *place = here;
             }
             ring.m += 1;
+            if starts >> here & 1 == 0 {
+                break;
+            }
             here = next[usize::from(here)];
             if here == first {
                 break;
             }
         }
-        if ring.m < starts.count_ones() as usize {
-            return Err(answer::CIRCLES);
+        if ring.m < (starts | ends).count_ones() as usize {
+            return Err(match closed {
+                true => answer::CIRCLES,
+                false => answer::OPEN,
+            });
         }
         match ring.m {
             SHORTEST_RING..=LONGEST_RING => Ok(ring),

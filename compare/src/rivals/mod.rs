@@ -34,10 +34,21 @@ pub enum Fault {
     CirclesBeforeChains,
     CutsEndsToBytes,
     SwapsRowPair,
+    RefusesChains,
+    StartsChainsAtSmallest,
+    TakesChainBesideCircle,
+    CountsChainsInRows,
+    TakesBentChains,
+    TestsFlatBeforeLength,
+    TestsFlatAfterRoom,
+    RoomAsForRings,
+    ForgetsClosingFaces,
+    ForgetsClosingFaceOfB,
+    ClosingFacesEitherWay,
 }
 
 /// Every wrong kernel.
-pub const FAULTS: [Fault; 17] = [
+pub const FAULTS: [Fault; 28] = [
     Fault::ComparesRounded,
     Fault::IgnoresTheSign,
     Fault::ForgetsDiagonals,
@@ -55,9 +66,20 @@ pub const FAULTS: [Fault; 17] = [
     Fault::CirclesBeforeChains,
     Fault::CutsEndsToBytes,
     Fault::SwapsRowPair,
+    Fault::RefusesChains,
+    Fault::StartsChainsAtSmallest,
+    Fault::TakesChainBesideCircle,
+    Fault::CountsChainsInRows,
+    Fault::TakesBentChains,
+    Fault::TestsFlatBeforeLength,
+    Fault::TestsFlatAfterRoom,
+    Fault::RoomAsForRings,
+    Fault::ForgetsClosingFaces,
+    Fault::ForgetsClosingFaceOfB,
+    Fault::ClosingFacesEitherWay,
 ];
 
-/// The patch after the removal, or the answer: 9 to 17.
+/// The patch after the removal, or the answer: 9 to 17 and 19.
 pub fn removal(patch: &Patch, ends: [usize; 2], fault: Fault) -> Result<Patch, u32> {
     let [a, b] = ordered_ends(patch, ends, fault)?;
     let hit: Vec<bool> = patch
@@ -69,18 +91,32 @@ pub fn removal(patch: &Patch, ends: [usize; 2], fault: Fault) -> Result<Patch, u
         .filter(|index| hit[*index])
         .map(|index| link_by_parity(patch.rows[index].numbers, a, b))
         .collect();
-    let ring = circle(&links, fault)?;
+    let (ring, closed) = circle_or_chain(&links, fault)?;
     let m = ring.len();
-    if !(SHORTEST_RING..=LONGEST_RING).contains(&m) {
+    let bent = !closed && is_bent(patch, [a, b, ring[0], ring[m - 1]], fault);
+    if bent && fault == Fault::TestsFlatBeforeLength {
+        return Err(answer::NOT_FLAT);
+    }
+    let counted = match fault {
+        Fault::CountsChainsInRows => links.len(),
+        _ => m,
+    };
+    if !(SHORTEST_RING..=LONGEST_RING).contains(&counted) {
         return Err(answer::RING_LENGTH);
     }
-    let no_room = patch.rows.len() + m > MAX_ROWS + 4;
+    if bent && fault != Fault::TestsFlatAfterRoom {
+        return Err(answer::NOT_FLAT);
+    }
+    let no_room = patch.rows.len() + m > room(closed, fault);
     if no_room && fault != Fault::TestsRoomLast {
         return Err(answer::ROOM);
     }
+    if bent {
+        return Err(answer::NOT_FLAT);
+    }
     let kept: Vec<Row> = pick(patch, &hit, false);
     let removed: Vec<Row> = pick(patch, &hit, true);
-    let table = Table::fill(patch, &kept, a, b, &ring, fault);
+    let table = Table::fill(patch, &kept, [a, b], (&ring, closed), fault);
     let new = table.expanded().ok_or(answer::NOT_ADMISSIBLE)?;
     let judged = match fault {
         Fault::ComparesWithPatchWorst => &patch.rows,
@@ -139,8 +175,22 @@ fn link_by_parity(numbers: [u8; 4], a: u8, b: u8) -> (u8, u8) {
     }
 }
 
-/// The one circle that all links form: answers 10 to 12.
-fn circle(links: &[(u8, u8)], fault: Fault) -> Result<Vec<u8>, u32> {
+/// The most that rows before and m may be together.
+fn room(closed: bool, fault: Fault) -> usize {
+    match closed || fault == Fault::RoomAsForRings {
+        true => MAX_ROWS + 4,
+        false => MAX_ROWS + 3,
+    }
+}
+
+/// Whether the row over the ends of the edge and of its chain is upright or inverted.
+fn is_bent(patch: &Patch, outer: [u8; 4], fault: Fault) -> bool {
+    let flat = seen_quality(patch, outer, fault).numerator == 0;
+    !flat && fault != Fault::TakesBentChains
+}
+
+/// The one circle that all links form, or the one chain, and whether it closes: answers 10 to 12.
+fn circle_or_chain(links: &[(u8, u8)], fault: Fault) -> Result<(Vec<u8>, bool), u32> {
     let &(first_v, _) = links.first().ok_or(answer::NOT_HELD)?;
     let mut next = [None; 256];
     let mut ended = [false; 256];
@@ -149,29 +199,51 @@ fn circle(links: &[(u8, u8)], fault: Fault) -> Result<Vec<u8>, u32> {
         ended[usize::from(*w)] = true;
     }
     let all_close = (0..256).all(|p| next[p].is_some() == ended[p]);
-    let start = match fault {
-        Fault::StartsAtFirstRow => first_v,
-        _ => links.iter().map(|(v, _)| *v).min().expect("some link"),
+    let smallest = links.iter().map(|(v, _)| *v).min().expect("some link");
+    let start_of_chain = || {
+        links
+            .iter()
+            .map(|(v, _)| *v)
+            .find(|v| !ended[usize::from(*v)])
+    };
+    let start = match (all_close, fault) {
+        (true, Fault::StartsAtFirstRow) => first_v,
+        (true, _) => smallest,
+        (false, _) => start_of_chain().expect("a chain has a start"),
     };
     let mut ring = vec![start];
     while let Some(w) = next[usize::from(ring[ring.len() - 1])].filter(|w| *w != start) {
         ring.push(w);
     }
-    match (all_close, ring.len() == links.len()) {
-        (false, false) if fault == Fault::CirclesBeforeChains => Err(answer::CIRCLES),
-        (false, _) => Err(answer::OPEN),
+    let points = (0..256).filter(|p| next[*p].is_some() || ended[*p]).count();
+    match (all_close, ring.len() == points) {
+        (true, true) => Ok((ring, true)),
         (true, false) => Err(answer::CIRCLES),
-        (true, true) => Ok(ring),
+        (false, true) => chain_seen(ring, fault).map(|chain| (chain, false)),
+        (false, false) if fault == Fault::CirclesBeforeChains => Err(answer::CIRCLES),
+        (false, false) if fault == Fault::TakesChainBesideCircle => Ok((ring, false)),
+        (false, false) => Err(answer::OPEN),
     }
 }
 
-fn region_of(removed: &[Row], links: &[(u8, u8)], v1: u8, fault: Fault) -> u8 {
-    let of_v1 = links
-        .iter()
-        .position(|(v, _)| *v == v1)
-        .expect("v1 starts a link");
+/// The one chain, as a rival takes it.
+fn chain_seen(mut chain: Vec<u8>, fault: Fault) -> Result<Vec<u8>, u32> {
     match fault {
-        Fault::TakesRegionOfV1 => removed[of_v1].region,
+        Fault::RefusesChains => return Err(answer::OPEN),
+        Fault::StartsChainsAtSmallest => {
+            let places = 0..chain.len();
+            let least = places.min_by_key(|place| chain[*place]).expect("points");
+            chain.rotate_left(least);
+        }
+        _ => {}
+    }
+    Ok(chain)
+}
+
+fn region_of(removed: &[Row], links: &[(u8, u8)], v1: u8, fault: Fault) -> u8 {
+    let of_v1 = || links.iter().position(|(v, _)| *v == v1);
+    match fault {
+        Fault::TakesRegionOfV1 => removed[of_v1().expect("v1 starts a link")].region,
         _ => removed[0].region,
     }
 }

@@ -39,7 +39,7 @@ pub fn worst(patch: &Patch, rows: &[Row], fault: Fault) -> Quality {
         .iter()
         .map(|row| seen_quality(patch, row.numbers, fault));
     let least = qualities.min_by(|x, y| compare(*x, *y, fault));
-    least.expect("a ring has rows")
+    least.expect("an edge that is held has rows")
 }
 
 /// Is the new worst better than the old?

@@ -2,16 +2,18 @@
 
 use super::order::compare;
 use super::{seen_quality, Fault};
+use crate::model::mesh::faces;
 use crate::model::{Patch, Quality, Row};
 use std::cmp::Ordering;
 
 type Cell = Option<(Quality, usize)>;
 
-/// Best worst and apex of each piece of one ring.
+/// Best worst and apex of each piece of one ring or chain.
 pub struct Table<'r> {
     cells: Vec<Vec<Cell>>,
     ends: [u8; 2],
     ring: &'r [u8],
+    closed: bool,
     fault: Fault,
 }
 
@@ -19,16 +21,16 @@ impl Table<'_> {
     pub fn fill<'r>(
         patch: &Patch,
         kept: &[Row],
-        a: u8,
-        b: u8,
-        ring: &'r [u8],
+        ends: [u8; 2],
+        (ring, closed): (&'r [u8], bool),
         fault: Fault,
     ) -> Table<'r> {
         let m = ring.len();
         let mut table = Table {
             cells: vec![vec![None; m]; m],
-            ends: [a, b],
+            ends,
             ring,
+            closed,
             fault,
         };
         for i in (0..m - 2).rev() {
@@ -96,34 +98,38 @@ impl Table<'_> {
         }
     }
 
-    /// A rival that takes the ring's side v1 vm for a diagonal.
+    /// The side v1 vm: of a chain its two faces, each in one direction; of a ring nothing, but a rival takes it for a diagonal.
     fn whole_side_blocked(&self, kept: &[Row], i: usize, j: usize) -> bool {
+        let (v1, vm) = (self.ring[i], self.ring[j]);
+        let [a, b] = self.ends;
         let whole = i == 0 && j == self.ring.len() - 1;
-        let judges = self.fault == Fault::JudgesTheRingSide;
-        whole && judges && self.diagonal_blocked(kept, self.ring[i], self.ring[j])
+        whole
+            && match (self.closed, self.fault) {
+                (true, Fault::JudgesTheRingSide) => self.diagonal_blocked(kept, v1, vm),
+                (true, _) | (false, Fault::ForgetsClosingFaces) => false,
+                (false, Fault::ForgetsClosingFaceOfB) => directed(kept, [a, v1, vm]),
+                (false, Fault::ClosingFacesEitherWay) => self.diagonal_blocked(kept, v1, vm),
+                (false, _) => directed(kept, [a, v1, vm]) || directed(kept, [b, vm, v1]),
+            }
     }
 
     /// Does a kept row hold the three points? A row that holds them has them as a face.
     fn used(&self, kept: &[Row], face: [u8; 3]) -> bool {
-        let same_way = |row: &Row| {
-            let turns = [0, 1, 2].map(|x| [face[x], face[(x + 1) % 3], face[(x + 2) % 3]]);
-            crate::model::mesh::faces(row.numbers)
+        match self.fault {
+            Fault::LooksOneWayRound => directed(kept, face),
+            _ => kept
                 .iter()
-                .any(|f| turns.contains(f))
-        };
-        kept.iter().any(|row| match self.fault {
-            Fault::LooksOneWayRound => same_way(row),
-            _ => face.iter().all(|point| row.numbers.contains(point)),
-        })
+                .any(|row| face.iter().all(|point| row.numbers.contains(point))),
+        }
     }
 
-    /// The best worst of the whole ring, which has one.
+    /// The best worst of the whole ring or chain, which has one.
     pub fn best_worst(&self) -> Quality {
         let whole = self.cells[0][self.ring.len() - 1];
-        whole.expect("the ring has an admissible triangulation").0
+        whole.expect("it has an admissible triangulation").0
     }
 
-    /// The new rows in written order, if the whole ring has an admissible triangulation.
+    /// The new rows in written order, if the whole has an admissible triangulation.
     pub fn expanded(&self) -> Option<Vec<[u8; 4]>> {
         let mut rows = vec![];
         let mut open = vec![(0, self.ring.len() - 1)];
@@ -149,4 +155,12 @@ impl Table<'_> {
             _ => [a_row, b_row],
         }
     }
+}
+
+/// Does a kept row have this face in this direction?
+fn directed(kept: &[Row], face: [u8; 3]) -> bool {
+    let turns = [0, 1, 2].map(|x| [face[x], face[(x + 1) % 3], face[(x + 2) % 3]]);
+    kept.iter()
+        .flat_map(|row| faces(row.numbers))
+        .any(|face| turns.contains(&face))
 }

@@ -1,4 +1,4 @@
-//! What a run of cases covered: how often each answer came, each ring length, each fine point.
+//! What a run of cases covered: how often each answer came, each length of ring and chain, each fine point.
 
 use crate::gen::Case;
 use crate::model::limits::{BLOCK_BYTES, LONGEST_RING, MAX_ROWS};
@@ -9,12 +9,13 @@ use crate::model::{answer, open, run, Call, Outcome, Patch, Quality};
 use crate::rivals::{removal, Fault, FAULTS};
 use std::collections::BTreeMap;
 
+mod chains;
 mod print;
 
-/// Answers are 0 to 18.
-pub const ANSWERS: usize = 19;
+/// Answers are 0 to 19.
+pub const ANSWERS: usize = 20;
 
-/// Rings of this length and longer share a line.
+/// Rings of this length and longer share a line, and so do chains.
 const LONGER: usize = LONGEST_RING + 2;
 
 /// How often each answer came.
@@ -27,6 +28,8 @@ pub struct Tally {
     pub families: BTreeMap<&'static str, Counts>,
     /// Answers of removals whose edge has one ring, by its length.
     pub rings: BTreeMap<usize, Counts>,
+    /// Answers of removals whose edge has one open chain, by its length in points.
+    pub chains: BTreeMap<usize, Counts>,
     /// Removals that tell a wrong kernel from the model, by what it gets wrong.
     pub told: BTreeMap<String, u64>,
     /// Fine points that removals went through.
@@ -64,14 +67,26 @@ impl Tally {
         let site = site(&patch, ends[0], ends[1]).ok();
         let removal = !matches!(case.call, Call::Flip32 { .. }) && number != answer::LENGTH;
         if let (Some(site), true) = (&site, removal) {
-            count(&mut self.rings, site.m().min(LONGER), number);
+            let lengths = match site.closed {
+                true => &mut self.rings,
+                false => &mut self.chains,
+            };
+            count(lengths, site.m().min(LONGER), number);
         }
+        self.add_all(match case.call {
+            Call::Flip32 { .. } => chains::flip_points(&patch, site.as_ref(), number),
+            _ => chains::open_points(&patch, ends, number),
+        });
         if let (Call::Remove { out, .. }, Outcome::Bytes(_, bytes)) = (&case.call, &outcome) {
             if out.len() == BLOCK_BYTES {
                 let written = (number == answer::DONE).then(|| open(bytes).expect("it opens"));
                 self.add_rivals(&patch, ends, written.as_ref().ok_or(number));
                 if let Some(site) = site {
                     self.add_points(&patch, &site, number, written);
+                    if !site.closed {
+                        self.add_all(chains::outer_points(&patch, &site, number));
+                        self.add_all(chains::closing_points(&patch, &site, number));
+                    }
                 }
             }
         }
@@ -104,7 +119,7 @@ impl Tally {
 
     fn add_points(&mut self, patch: &Patch, site: &Site, number: u32, after: Option<Patch>) {
         let regions = site.removed.iter().any(|row| row.region != site.region);
-        self.point("ring of several regions", regions);
+        self.point("ring or chain of several regions", regions);
         self.point(
             "60 rows before, answer 0",
             number == 0 && patch.rows.len() == MAX_ROWS,
@@ -138,7 +153,7 @@ impl Tally {
         self.point("answer 0: a new row is inverted", sign(new, -1));
         self.point(
             "answer 0: points of the ring coincide",
-            coincide(patch, site),
+            coincide(patch, &site.ring),
         );
         self.point("answer 0: 60 rows after", after.rows.len() == MAX_ROWS);
         self.point("answer 0: kept rows", !site.kept.is_empty());
@@ -185,10 +200,16 @@ impl Tally {
         };
         let (taken, left) = (worst(new), worst(other));
         let whole = new[0] != other[0];
-        self.point("tie in the whole ring", whole);
+        self.point("tie in the whole ring or chain", whole);
         self.point("tie only in a piece below", !whole);
         self.point("tie at zero", taken == 0);
         self.point("tie of other numerator and denominator", taken != left);
+    }
+
+    fn add_all(&mut self, points: Vec<(&'static str, bool)>) {
+        for (name, seen) in points {
+            self.point(name, seen);
+        }
     }
 
     fn point(&mut self, name: &'static str, seen: bool) {
@@ -227,12 +248,10 @@ fn edge_of(call: &Call) -> Option<(&[u8], [usize; 2])> {
     }
 }
 
-fn coincide(patch: &Patch, site: &Site) -> bool {
-    let mut places: Vec<[u8; 3]> = site
-        .ring
-        .iter()
-        .map(|v| patch.points[usize::from(*v)])
-        .collect();
+/// Do two of these points share a place?
+fn coincide(patch: &Patch, points: &[u8]) -> bool {
+    let places = points.iter().map(|v| patch.points[usize::from(*v)]);
+    let mut places: Vec<[u8; 3]> = places.collect();
     places.sort_unstable();
     places.windows(2).any(|pair| pair[0] == pair[1])
 }

@@ -1,6 +1,7 @@
 //! The table of a tally.
 
 use super::{Counts, Tally, ANSWERS, LONGER};
+use std::collections::BTreeMap;
 use std::fmt;
 
 impl fmt::Display for Tally {
@@ -9,15 +10,19 @@ impl fmt::Display for Tally {
         let calls: Vec<_> = self
             .calls
             .iter()
-            .map(|(name, c)| (name.to_string(), c))
+            .map(|(name, c)| (name.to_string(), *c))
             .collect();
         matrix(f, "calls", &calls)?;
-        let rings: Vec<_> = self.rings.iter().map(|(m, c)| (ring_name(*m), c)).collect();
-        matrix(f, "removals by ring", &rings)?;
+        let by_length = |counts: &BTreeMap<usize, Counts>| {
+            let lines = counts.iter().map(|(m, c)| (length_name(*m), *c));
+            lines.collect::<Vec<_>>()
+        };
+        matrix(f, "removals by ring", &by_length(&self.rings))?;
+        matrix(f, "removals by chain", &by_length(&self.chains))?;
         let families: Vec<_> = self
             .families
             .iter()
-            .map(|(name, c)| (name.to_string(), c))
+            .map(|(name, c)| (name.to_string(), *c))
             .collect();
         matrix(f, "families", &families)?;
         writeln!(f, "\nwrong kernels told apart")?;
@@ -32,14 +37,14 @@ impl fmt::Display for Tally {
     }
 }
 
-fn ring_name(m: usize) -> String {
+fn length_name(m: usize) -> String {
     match m {
         LONGER => format!("m over {}", LONGER - 1),
         _ => format!("m = {m}"),
     }
 }
 
-fn matrix(f: &mut fmt::Formatter, title: &str, lines: &[(String, &Counts)]) -> fmt::Result {
+fn matrix(f: &mut fmt::Formatter, title: &str, lines: &[(String, Counts)]) -> fmt::Result {
     write!(f, "\n{title:20}")?;
     for number in 0..ANSWERS {
         write!(f, "{number:6}")?;
@@ -47,7 +52,7 @@ fn matrix(f: &mut fmt::Formatter, title: &str, lines: &[(String, &Counts)]) -> f
     writeln!(f)?;
     for (name, counts) in lines {
         write!(f, "{name:20}")?;
-        for count in *counts {
+        for count in counts {
             write!(f, "{count:6}")?;
         }
         writeln!(f)?;

@@ -13,8 +13,13 @@ use std::collections::BTreeMap;
 const SEED: u64 = 1;
 const COUNT: u64 = 10_000;
 
-/// How many cases show each thing.
-const WANTED: usize = 2;
+/// How many cases show a thing: one for each length and outcome of a chain, which the fine points show again.
+fn wanted(reason: &str) -> usize {
+    match reason.starts_with("chain, m = ") {
+        true => 1,
+        false => 2,
+    }
+}
 
 /// The stored cases, by call and answer.
 pub fn picked() -> Vec<Case> {
@@ -22,8 +27,8 @@ pub fn picked() -> Vec<Case> {
     let mut stored: Vec<Case> = vec![];
     for case in cases(SEED, COUNT).filter_map(storable) {
         let reasons = reasons(&case);
-        let count = |reason| shown.get(reason).copied().unwrap_or(0);
-        if reasons.iter().all(|reason| count(reason) >= WANTED) {
+        let count = |reason: &String| shown.get(reason).copied().unwrap_or(0);
+        if reasons.iter().all(|reason| count(reason) >= wanted(reason)) {
             continue;
         }
         for reason in reasons {
@@ -59,9 +64,11 @@ pub fn reasons(case: &Case) -> Vec<String> {
     let name = CALLS[call];
     let mut reasons = vec![format!("{name} {number}")];
     let tally = Tally::of([case.clone()].into_iter().chain(page_of(case)));
-    for (m, counts) in tally.rings {
-        let given = (0..).zip(counts).filter(|(_, count)| *count > 0);
-        reasons.extend(given.map(|(number, _)| format!("m = {m}: {number}")));
+    for (what, lengths) in [("ring", tally.rings), ("chain", tally.chains)] {
+        for (m, counts) in lengths {
+            let given = (0..).zip(counts).filter(|(_, count)| *count > 0);
+            reasons.extend(given.map(|(number, _)| format!("{what}, m = {m}: {number}")));
+        }
     }
     let told = tally.told.into_iter().filter(|(_, told)| *told > 0);
     reasons.extend(told.map(|(fault, _)| format!("not {fault}")));

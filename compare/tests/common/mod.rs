@@ -34,6 +34,19 @@ pub fn block_a_after() -> Patch {
     patch(&block_a().points, rows, 7)
 }
 
+/// The edge 0, 1 on the flat face z = 12 with the points 2 and 3, and the chain 3, 5, 4, 2 below it.
+pub fn plate() -> Patch {
+    let points = [
+        [0, 8, 12],
+        [24, 8, 12],
+        [12, 2, 12],
+        [12, 14, 12],
+        [12, 0, 0],
+        [12, 16, 0],
+    ];
+    patch(&points, &[[0, 1, 4, 2], [0, 1, 5, 4], [0, 1, 3, 5]], 7)
+}
+
 /// An output block as it comes.
 pub const UNTOUCHED: [u8; BLOCK_BYTES] = [0xA5; BLOCK_BYTES];
 
@@ -42,6 +55,12 @@ pub fn remove_answer(patch: &Patch, a: usize, b: usize) -> u32 {
     let mut out = UNTOUCHED;
     let outcome = compare::model::remove(&patch.to_bytes(), a, b, &mut out);
     outcome.err().unwrap_or(0)
+}
+
+/// The answer of a 3-2 flip.
+pub fn flip_32_answer(patch: &Patch, a: usize, b: usize) -> u32 {
+    let mut out = UNTOUCHED;
+    compare::model::flip_32(&patch.to_bytes(), a, b, &mut out)
 }
 
 /// The patches and edges of generated removals whose block opens.
