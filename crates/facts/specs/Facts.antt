@@ -1,4 +1,4 @@
--- The twelve facts of document 01 as one computed table, and its printout of block A.
+-- The twelve facts of document 01 as one computed table, the seventh as document 02 has it, and the printout of block A.
 use Prim.Native.Nat.{ℕ}
 use mathlib.Core.Bool.{Bool, false, _&&_}
 use mathlib.Core.List.{List, [], _∷_, _++_, map}
@@ -18,7 +18,7 @@ use Rattle.ring.specs.Ring.{siteOf}
 use Rattle.pieces.specs.Triangulation.{Tri, side, cut, ways, newRows}
 use Rattle.tally.specs.Summing.{qualities}
 use Rattle.patch.specs.Removing.{worstNow, removeAnswer, removeBytes}
-use Rattle.patch.specs.Flipping.{flip23Bytes}
+use Rattle.patch.specs.Flipping.{flip32Answer, flip23Bytes}
 use Rattle.printout.specs.Printout.{text, printout}
 use Rattle.facts.specs.Open.{definitions}
 
@@ -141,8 +141,8 @@ facts =
     ∷ (Ds octahedron (replicate 4 432) && Ss octahedron (replicate 4 504) && eqb (answer octahedron 0 1) 16
     && eqb (length (ways 3)) 2
     && every (λ t. Ds (newBy t octahedron) (replicate 4 432) && Ss (newBy t octahedron) (replicate 4 504)) (ways 3))
-    -- 7. A without its third row, edge 0, 1: 11.
-    ∷ eqb (answer openA 0 1) 11
+    -- 7. A without its third row, edge 0, 1: 19 for the removal; the plain 3-2 flip still gets 11.
+    ∷ (eqb (answer openA 0 1) 19 && eqb (flip32Answer (bytesOf openA) blank 0 1) 11)
     -- 8. A with a sixth point and the row (5,2,3,4): 15.
     ∷ eqb (answer blockedA 0 1) 15
     -- 9. A, edge 0, 0 or 0, 5: 9; with an unused sixth point, 0, 5 gives 10.

@@ -1,3 +1,4 @@
 pub mod Open
 pub mod Facts
 pub mod Room
+pub mod Chains

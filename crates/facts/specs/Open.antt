@@ -11,14 +11,16 @@ use Rattle.mesh.specs.Mesh.{rowD, rowS, rowQuality, totalD}
 use Rattle.mesh.specs.Tetrahedra.{evenly, arrangedFrom}
 use Rattle.block.specs.Layout.{fieldsOf, bodyOf, sumsOnto, sumBytes}
 use Rattle.block.specs.Answers.{sumWrong, zeroMissing, coordinateOver, numberWrong, firstRefusal, bodyTests, openAnswer}
-use Rattle.ring.specs.Ring.{link, next, walk, smallest, ringOf, siteOf, numbersWrong, linkOpen, manyCircles, edgeTests}
+use Rattle.ring.specs.Ring.{link, next, walk, smallest, allClose, circleOf, heads, follow, chainOf, siteOf, flat, numbersWrong}
+use Rattle.ring.specs.Ring.{whole, linkOpen, manyCircles, edgeTests}
 use Rattle.pieces.specs.Triangulation.{span, triangles, closingSides, diagonals, waysWithin, twoRows, newRows, tableAfter}
 use Rattle.pieces.specs.Admissible.{admissible, pieceAdmissible}
 use Rattle.pieces.specs.Best.{worstOfWay, ringWays, pieceWays, bestWorst, reaches, apex, chosenWithin}
 use Rattle.tally.specs.Summing.{summaryOf}
 use Rattle.patch.specs.Removing.{blockTests, worstNow, noWay, noneBetter, patchAfter, totalDiffers, removalTests}
 use Rattle.patch.specs.Removing.{removeAnswer, removeBytes}
-use Rattle.patch.specs.Flipping.{apexOver, pairOf, threeRows, patchAfter23, flip23Tests, flip23Answer, flip23Bytes}
+use Rattle.patch.specs.Flipping.{flip32Tests, flip32Answer, apexOver, pairOf, threeRows, patchAfter23}
+use Rattle.patch.specs.Flipping.{flip23Tests, flip23Answer, flip23Bytes}
 use Rattle.printout.specs.Printout.{text, decimalWithin, spaced, lineEnd, ended, line, mark, summaryFields, report, printout}
 
 -- It has no content of its own: to unfold it is to unfold what its line names.
@@ -33,12 +35,12 @@ unfolding
     evenly arrangedFrom
     fieldsOf bodyOf sumsOnto sumBytes
     sumWrong zeroMissing coordinateOver numberWrong firstRefusal bodyTests openAnswer
-    link next walk smallest ringOf siteOf numbersWrong linkOpen manyCircles edgeTests
+    link next walk smallest allClose circleOf heads follow chainOf siteOf flat numbersWrong whole linkOpen manyCircles edgeTests
     span triangles closingSides diagonals waysWithin twoRows newRows tableAfter
     admissible pieceAdmissible
     worstOfWay ringWays pieceWays bestWorst reaches apex chosenWithin
     summaryOf
     blockTests worstNow noWay noneBetter patchAfter totalDiffers removalTests removeAnswer removeBytes
-    apexOver pairOf threeRows patchAfter23 flip23Tests flip23Answer flip23Bytes
+    flip32Tests flip32Answer apexOver pairOf threeRows patchAfter23 flip23Tests flip23Answer flip23Bytes
     text decimalWithin spaced lineEnd ended line mark summaryFields report printout
 definitions = tt

@@ -1,4 +1,4 @@
--- Document 01, "Room: 58 rows with m = 6 pass, 59 get 14; 60 rows with m = 4 pass", computed.
+-- Document 01, "Room: 58 rows with m = 6 pass, 59 get 14; 60 rows with m = 4 pass", computed; and document 02's room of a chain.
 use Prim.Native.Nat.{ℕ, suc, _+_}
 use mathlib.Core.Bool.{Bool, _&&_}
 use mathlib.Core.List.{List, [], _∷_, _++_, map}
@@ -9,7 +9,7 @@ use Rattle.measure.specs.declared.Point.{Point}
 use Rattle.mesh.specs.declared.Row.{Row}
 use Rattle.block.specs.Layout.{Patch, maxPoints, bytesOf}
 use Rattle.block.specs.Answers.{firstRefusal}
-use Rattle.ring.specs.Ring.{siteOf, m, edgeTests}
+use Rattle.ring.specs.Ring.{siteOf, m, orChains, edgeTests}
 use Rattle.patch.specs.Removing.{blockTests, removalTests}
 use Rattle.facts.specs.Open.{definitions}
 use Rattle.facts.specs.Facts.{at, row, blank, answer}
@@ -36,7 +36,14 @@ fourRing n = record {
   rows = row 0 1 2 3 ∷ row 0 1 3 4 ∷ row 0 1 4 5 ∷ row 0 1 5 2 ∷ strip 5 n;
 }
 
--- the patch has so many rows and a ring of so many points round 0, 1
+-- a long edge 0, 1 on a flat face in a chain of four, with n more rows
+unfoldable pub fourChain : ℕ → Patch
+fourChain n = record {
+  points = sixtyFour (at 30 0 60 ∷ at 30 0 0 ∷ at 36 0 30 ∷ at 34 6 30 ∷ at 26 6 30 ∷ at 24 0 30 ∷ []);
+  rows = row 0 1 2 3 ∷ row 0 1 3 4 ∷ row 0 1 4 5 ∷ strip 4 n;
+}
+
+-- the patch has so many rows and a ring or chain of so many points round 0, 1
 abbrev sized : Patch → ℕ → ℕ → Bool
 sized patch rows points = eqb (length (patch .rows)) rows && eqb (m (siteOf patch 0 1)) points
 
@@ -44,7 +51,7 @@ sized patch rows points = eqb (length (patch .rows)) rows && eqb (m (siteOf patc
 abbrev asFarAs14 : Patch → ℕ
 asFarAs14 patch =
     let site = siteOf patch 0 1 in
-    firstRefusal (blockTests (bytesOf patch) blank ++ edgeTests site 0 1 ++ take 2 (removalTests patch site))
+    firstRefusal (blockTests (bytesOf patch) blank ++ edgeTests orChains site 0 1 ++ take 3 (removalTests patch site))
 
 -- 58 rows with m = 6 pass, 59 get 14; 60 rows with m = 4 pass
 pub room :
@@ -53,3 +60,10 @@ pub room :
     && sized (fourRing 56) 60 4 && eqb (answer (fourRing 56) 0 1) 0)
 unfolding strip sixRing fourRing definitions
 room = tt
+
+-- "room is rows + m - 3": 59 rows with m = 4 pass, 60 get 14
+pub room-of-a-chain :
+    T (sized (fourChain 56) 59 4 && eqb (answer (fourChain 56) 0 1) 0
+    && sized (fourChain 57) 60 4 && eqb (answer (fourChain 57) 0 1) 14)
+unfolding strip fourChain definitions
+room-of-a-chain = tt

@@ -6,12 +6,12 @@ use lib.Dec.{leb}
 use lib.ListN.{getD, set}
 use Rattle.vectors.specs.declared.counts.Counts.{Counts}
 
--- the calls, and the answers 0 to 18
+-- the calls, and the answers 0 to 19
 abbrev pub calls : ℕ
 calls = 6
 
 abbrev pub answers : ℕ
-answers = 19
+answers = 20
 
 -- the cells with one more in one place
 abbrev pub withOne : List ℕ → ℕ → List ℕ

@@ -5,10 +5,10 @@ use Rattle.vectors.proofs.counts.print_cells.Statement.{statement}
 use Rattle.vectors.proofs.counts.print_cells.Tie as tie
 
 abbrev Inv-loop : tie.InvT-loop
-Inv-loop cases agreeing i₀ i = i ≤ 114
+Inv-loop cases agreeing i₀ i = i ≤ 120
 
 abbrev μ-loop : tie.MeasureT-loop
-μ-loop cases agreeing i₀ i = 114 - i
+μ-loop cases agreeing i₀ i = 120 - i
 
 loop-holds : tie.Need-loop-holds Inv-loop μ-loop
 loop-holds c = omega arith

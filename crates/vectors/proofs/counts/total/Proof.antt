@@ -5,10 +5,10 @@ use Rattle.vectors.proofs.counts.total.Statement.{statement}
 use Rattle.vectors.proofs.counts.total.Tie as tie
 
 abbrev Inv-loop : tie.InvT-loop
-Inv-loop cells sum₀ i₀ sum i = i ≤ 114
+Inv-loop cells sum₀ i₀ sum i = i ≤ 120
 
 abbrev μ-loop : tie.MeasureT-loop
-μ-loop cells sum₀ i₀ sum i = 114 - i
+μ-loop cells sum₀ i₀ sum i = 120 - i
 
 loop-holds : tie.Need-loop-holds Inv-loop μ-loop
 loop-holds c = omega arith
