@@ -7,6 +7,7 @@ use mathlib.Core.Path.{_≡_, refl, ap}
 use native.Mathlib.Decide.{ℕ-discrete}
 use borrow.Author.Tests.{eq-eqb, ne-eqb}
 use lib.Dec.{eqb}
+use Rattle.lists.specs.Lists.{any}
 use Rattle.ring.specs.Ring.{Site, m}
 use Rattle.pieces.specs.Admissible.{closingFaces, shut}
 use Rattle.pieces.specs.Best.{shutPiece}
@@ -22,6 +23,11 @@ module _ (site : Site) where
   pub chain-faces : site .closed ≡ false → closingFaces site ≡ aFace site 1 (m site) ∷ bFace site (m site) 1 ∷ []
   unfolding closingFaces
   chain-faces e = ap (λ closed. cond closed [] (aFace site 1 (m site) ∷ bFace site (m site) 1 ∷ [])) e
+
+  -- so nothing shuts a ring
+  pub ring-open : site .closed ≡ true → shut site ≡ false
+  unfolding shut any
+  ring-open e = rw (ring-faces e)
 
   -- ---- the cells of the table
 

@@ -11,7 +11,7 @@ use Rattle.measure.specs.declared.Quality.{Quality}
 use Rattle.measure.specs.Measure.{pointIn, quality, fromParts}
 use Rattle.block.specs.Layout.{fieldsOf}
 use Rattle.ring.specs.declared.Ring.{Ring}
-use Rattle.ring.specs.Ring.{siteOf, m, ringWith}
+use Rattle.ring.specs.Ring.{siteOf, m, ringsAlone, ringWith}
 use Rattle.pieces.specs.Best.{apex}
 use Rattle.patch.specs.Steps.{edgeFound}
 
@@ -45,9 +45,9 @@ measured corners before = cond (eqb (length corners) cornerBytes && eqb (length 
 abbrev pub upright : ℕ → ℕ → Quality
 upright num den = fromParts Upright num den
 
--- the ring round the edge, where the ends are in order; with a refusal it has no points
+-- the closed ring round the edge, where the ends are in order; with a refusal it has no points
 unfoldable pub ringAt : List ℕ → ℕ → ℕ → Ring
-ringAt block e f = cond (ltb e f) (edgeFound block block e f .ring) (ringWith [])
+ringAt block e f = cond (ltb e f) (edgeFound ringsAlone block block e f .ring) (ringWith [])
 
 -- the apex of the whole ring; 0 where there is no ring, or the mark
 unfoldable pub topApex : List ℕ → ℕ → ℕ → ℕ

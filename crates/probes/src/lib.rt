@@ -90,7 +90,7 @@ fn no_ring() -> Ring
     Ring { m: 0, v: [0; 10] }
 }
 
-// The ring round the edge between the points e and f, if e < f; where there is none it has no points.
+// The closed ring round the edge between the points e and f, if e < f; where there is none it has no points.
 fn ring_at(block: &[u8], e: usize, f: usize) -> Ring
     ensures { λ r. ⌜ r ≡ ringAt (now (block .entry)) e f ⌝ }
 {
@@ -109,6 +109,7 @@ fn ring_at(block: &[u8], e: usize, f: usize) -> Ring
         block[2] as usize,
         e as u8,
         f as u8,
+        false,
     );
     found.ring
 }
@@ -138,6 +139,7 @@ pub extern "C" fn probe_table(block: &[u8], e: usize, f: usize) -> u64
         block[2] as usize,
         e as u8,
         f as u8,
+        true,
         ring,
     );
     let at = pieces::cell_at(1, pieces.m);
