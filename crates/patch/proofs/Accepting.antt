@@ -1,6 +1,6 @@
 -- What an accepted call leaves: law 6 for each call that writes, law 16, and the room of a 3-2 flip.
 use Prim.Native.Nat.{ℕ, _+_, _-_, _≤_, _<_, min, max}
-use mathlib.Core.Bool.{Bool, true, false}
+use mathlib.Core.Bool.{Bool, true, false, cond}
 use mathlib.Core.List.{List, [], _∷_}
 use mathlib.Core.Path.{_≡_, refl, sym, _∙_}
 use native.Mathlib.Omega.{arith}
@@ -12,7 +12,7 @@ use Rattle.block.proofs.Refusals.{goes-on, refuses}
 use Rattle.block.proofs.Right.{right-block}
 use Rattle.block.proofs.Written.{rows-counted}
 use Rattle.mesh.specs.Mesh.{holdsEdge, holdsFace}
-use Rattle.ring.specs.Ring.{Site, siteOf, m, minRing, lengthWrong}
+use Rattle.ring.specs.Ring.{Site, siteOf, m, minRing, lengthWrong, notFlat}
 use Rattle.pieces.specs.Triangulation.{newRows, tableAfter, rowsAfter}
 use Rattle.pieces.specs.Admissible.{admissible}
 use Rattle.pieces.specs.Best.{chosen}
@@ -22,7 +22,7 @@ use Rattle.patch.specs.Flipping.{flip32Answer, flip32Bytes, pairOf, thre
 use Rattle.patch.specs.Demands.{Accepted, Room}
 use Rattle.patch.proofs.Answering.{Flips23, removes, remove-left, flips-32, flips-23}
 use Rattle.patch.proofs.Facing.{Facing, face-apart, facing, flipped-total}
-use Rattle.patch.proofs.Sites.{opens-rule, site-length}
+use Rattle.patch.proofs.Sites.{opens-rule, sound-site}
 use Rattle.patch.proofs.Written.{accepted}
 use Rattle.patch.proofs.Third.{site-total, length-fits, length-passes, some-way, site-chosen}
 
@@ -32,26 +32,27 @@ module _ (block : List ℕ) (e f : ℕ) (sound : Sound block e f) where
 
   -- ---- law 16
 
-  -- the rows afterwards: as many as before, and m - 4
-  pub rows-after : 3 ≤ m site → rowsAfter site ≡ length (fieldsOf block .rows) + m site - 4
+  -- the rows afterwards: as many as before, and m - 4, or for a chain m - 3
+  pub rows-after : 3 ≤ m site → rowsAfter site ≡ length (fieldsOf block .rows) + m site - cond (site .closed) 4 3
   unfolding siteOf
-  rows-after three = after-rows site (fieldsOf block .rows) refl refl (site-length block e f sound) three
+  rows-after three = after-rows site (fieldsOf block .rows) refl refl (sound-site block e f sound .size) three
 
   -- a 3-2 flip always has room
-  pub room-32 : m site ≡ minRing → rowsAfter site ≤ maxRows
-  room-32 three = omega (arith, rows-after (omega arith), rows-counted block, right-block block (sound .opens) .body .few-rows)
+  pub room-32 : site .closed ≡ true → m site ≡ minRing → rowsAfter site ≤ maxRows
+  room-32 closed three =
+      omega (arith, rw closed at (rows-after (omega arith)), rows-counted block, right-block block (sound .opens) .body .few-rows)
 
   -- ---- what is written, where some way keeps the mesh rule and there is room
 
-  pub site-accepted : 3 ≤ m site → noWay site ≡ false → rowsAfter site ≤ maxRows
+  pub site-accepted : notFlat site ≡ false → 3 ≤ m site → noWay site ≡ false → rowsAfter site ≤ maxRows
       → Accepted block (bytesOf (patchAfter site)) (holdsEdge (min e f) (max e f)) (newRows site 1 (chosen site))
   unfolding patchAfter siteOf tableAfter admissible
-  site-accepted three way room =
+  site-accepted flat three way room =
       let (t, w) = some-way block e f sound three way in
       let best = site-chosen block e f sound three t w in
       let table = tableAfter site (chosen site) in
       accepted block (sound .opens) table (omega (arith, after-length site (chosen site) (best .way .spans))) (best .way .keeps)
-      (holdsEdge (min e f) (max e f)) (newRows site 1 (chosen site)) refl (site-total block e f sound (chosen site) (best .way .spans))
+      (holdsEdge (min e f) (max e f)) (newRows site 1 (chosen site)) refl (site-total block e f sound flat (chosen site) (best .way .spans))
 
 -- 14 exactly when the rows afterwards would be over 60
 
@@ -64,7 +65,7 @@ not-14 false false false h = omega arith
 
 pub room : Room
 unfolding removalTests
-room block out e f sound size low high = (λ h. go (noRoom its) refl (sym first ∙ h), λ h. first ∙ refuses 14 (noRoom its) _ (over h))
+room block out e f sound size low high flat = (λ h. go (noRoom its) refl (sym first ∙ h), λ h. first ∙ refuses 14 (noRoom its) _ (over h))
   where
     its : Site
     its = siteOf (fieldsOf block) e f
@@ -73,12 +74,15 @@ room block out e f sound size low high = (λ h. go (noRoom its) refl (sym first 
     rest = (15, noWay its) ∷ (16, noneBetter its) ∷ (17, totalDiffers (fieldsOf block) (patchAfter its)) ∷ []
 
     first : removeAnswer block out e f ≡ firstRefusal ((14, noRoom its) ∷ rest)
-    first = remove-left block out e f sound size ∙ goes-on 13 (lengthWrong its) _ (length-passes its low high)
+    first =
+        remove-left block out e f sound size
+        ∙ goes-on 13 (lengthWrong its) _ (length-passes its low high) ∙ goes-on 19 (notFlat its) _ flat
 
-    over : maxRows < length (fieldsOf block .rows) + m its - 4 → noRoom its ≡ true
+    over : maxRows < length (fieldsOf block .rows) + m its - cond (its .closed) 4 3 → noRoom its ≡ true
     over h = lt-ltb maxRows (rowsAfter its) (omega (arith, rows-after block e f sound low))
 
-    go : (b : Bool) → noRoom its ≡ b → firstRefusal ((14, noRoom its) ∷ rest) ≡ 14 → maxRows < length (fieldsOf block .rows) + m its - 4
+    go : (b : Bool) → noRoom its ≡ b → firstRefusal ((14, noRoom its) ∷ rest) ≡ 14
+        → maxRows < length (fieldsOf block .rows) + m its - cond (its .closed) 4 3
     go true h k = omega (arith, ltb-true maxRows (rowsAfter its) h, rows-after block e f sound low)
     go false h k =
         absurd (not-14 (noWay its) (noneBetter its) (totalDiffers (fieldsOf block) (patchAfter its))
@@ -93,7 +97,7 @@ unfolding removeBytes
 remove-accepted block out e f h =
     let r = removes block out e f h in
     let site = siteOf (fieldsOf block) e f in
-    rw h (site-accepted block e f (r .sound) (length-fits site (r .length-right) .0) (r .way)
+    rw h (site-accepted block e f (r .sound) (r .closed-or-flat) (length-fits site (r .length-right) .0) (r .way)
     (ltb-false maxRows (rowsAfter site) (r .room)))
 
 pub flip32-accepted : (block out : List ℕ) (e f : ℕ) → flip32Answer block out e f ≡ 0
@@ -102,7 +106,8 @@ pub flip32-accepted : (block out : List ℕ) (e f : ℕ) → flip32Answer block 
 unfolding flip32Bytes
 flip32-accepted block out e f h =
     let r = flips-32 block out e f h in
-    rw h (site-accepted block e f (r .sound) (omega (arith, r .three)) (r .way) (room-32 block e f (r .sound) (r .three)))
+    rw h (site-accepted block e f (r .sound) (rw (r .closed)) (omega (arith, r .three)) (r .way)
+    (room-32 block e f (r .sound) (r .closed) (r .three)))
 
 -- the two rows of a 2-3 flip that is not refused
 pub flips-facing : (block out : List ℕ) (x y z : ℕ) → Flips23 block out x y z

@@ -2,7 +2,7 @@
 use Prim.Native.Nat.{ℕ, _≤_}
 use mathlib.Core.Bool.{Bool, true, false, cond, not, _||_}
 use mathlib.Core.List.{List, [], _∷_, _++_}
-use mathlib.Core.Path.{_≡_, refl, sym, ap, _∙_}
+use mathlib.Core.Path.{_≡_, refl, sym, ap, _∙_, subst}
 use borrow.Author.Tests.{eqb-true, eqb-false, eq-eqb, ltb-false, not-false}
 use lib.Dec.{T, eqb, ltb}
 use lib.ListN.{length}
@@ -12,7 +12,8 @@ use Rattle.mesh.specs.Mesh.{keepsMeshRule}
 use Rattle.block.specs.Layout.{blockBytes, maxRows, fieldsOf}
 use Rattle.block.specs.Answers.{Tests, firstRefusal, notBlock, sumWrong, bodyTests, openAnswer}
 use Rattle.block.proofs.Refusals.{passed, goes-on, refuses}
-use Rattle.ring.specs.Ring.{Site, siteOf, m, minRing, numbersWrong, lengthWrong, edgeTests}
+use Rattle.ring.specs.Ring.{Site, siteOf, m, minRing, numbersWrong, ringsAlone, orChains, linkOpen, lengthWrong, notFlat, edgeTests}
+use Rattle.ring.proofs.Sites.{closed-passed}
 use Rattle.patch.specs.Removing.{blockTests, noRoom, noWay, noneBetter, patchAfter, totalDiffers, removalTests, removeAnswer, Sound}
 use Rattle.patch.specs.Flipping.{flip32Tests, flip32Answer, pairOf, patchAfter23, flip23Tests, flip23Answer}
 
@@ -62,9 +63,10 @@ pub block-numbered : (block out : List ℕ) → T (unlike 0 (blockTests block ou
 unfolding blockTests bodyTests every
 block-numbered block out = tt
 
-pub front-numbered : (block out : List ℕ) (site : Site) (e f : ℕ) → T (unlike 0 (blockTests block out ++ edgeTests site e f))
+pub front-numbered : (chains : Bool) (block out : List ℕ) (site : Site) (e f : ℕ)
+    → T (unlike 0 (blockTests block out ++ edgeTests chains site e f))
 unfolding blockTests bodyTests edgeTests every
-front-numbered block out site e f = tt
+front-numbered chains block out site e f = tt
 
 -- answers 1 to 8 are not given exactly when the block opens and the output is a block
 pub block-passed : (block out : List ℕ) → firstRefusal (blockTests block out) ≡ 0 → (openAnswer block ≡ 0) × (length out ≡ blockBytes)
@@ -98,24 +100,38 @@ block-opened block out rest opens = go (eqb (length out) blockBytes) refl
         refuses 1 (notBlock block || notBlock out) _ (ap (λ b. notBlock block || not b) e ∙ or-true (notBlock block))
         ∙ sym (refuses 1 (notBlock out) rest (ap not e))
 
--- what is left to test behind them
-module _ (block out : List ℕ) (e f : ℕ) (rest : Tests) where
+-- where the links close, every call has the same tests of the edge
+pub closed-tests : (chains : Bool) (site : Site) (e f : ℕ) → site .closed ≡ true → edgeTests chains site e f ≡ edgeTests orChains site e f
+unfolding edgeTests linkOpen
+closed-tests chains site e f closed = rw closed
+
+-- a call that takes rings alone has a closed one
+pub taken : (chains : Bool) (site : Site) (e f : ℕ) → firstRefusal (edgeTests chains site e f) ≡ 0
+    → (firstRefusal (edgeTests orChains site e f) ≡ 0) × (chains ≡ ringsAlone → site .closed ≡ true)
+taken true site e f h = (h, λ q. absurd (subst T q tt))
+taken false site e f h = let (closed, one) = closed-passed site e f h in (one, λ q. closed)
+
+-- what is left to test behind them, by what the call takes
+module _ (chains : Bool) (block out : List ℕ) (e f : ℕ) (rest : Tests) where
   abbrev edge : Tests
-  edge = edgeTests (siteOf (fieldsOf block) e f) e f
+  edge = edgeTests chains (siteOf (fieldsOf block) e f) e f
 
   pub reached : (n : ℕ) → T (unlike n (blockTests block out ++ edge)) → firstRefusal (blockTests block out ++ edge ++ rest) ≡ n
       → Sound block e f × (length out ≡ blockBytes) × (firstRefusal rest ≡ n)
+      × (chains ≡ ringsAlone → siteOf (fieldsOf block) e f .closed ≡ true)
   reached n other h =
       let (front, last) = both-passed n (blockTests block out ++ edge) rest other h in
       let (a, b) = both-passed 0 (blockTests block out) edge (block-numbered block out) front in
       let (opens, size) = block-passed block out a in
-      (record { opens = opens; closed = b }, size, last)
+      let (one, closed) = taken chains (siteOf (fieldsOf block) e f) e f b in
+      (record { opens = opens; one = one }, size, last, closed)
 
-  left : Sound block e f → length out ≡ blockBytes → firstRefusal (blockTests block out ++ edge ++ rest) ≡ firstRefusal rest
-  left sound size =
+  left : openAnswer block ≡ 0 → firstRefusal edge ≡ 0 → length out ≡ blockBytes
+      → firstRefusal (blockTests block out ++ edge ++ rest) ≡ firstRefusal rest
+  left opens one size =
       let front : firstRefusal (blockTests block out ++ edge) ≡ 0 =
-      front-passed (blockTests block out) edge (block-numbered block out) (passed-block block out (sound .opens) size) ∙ sound .closed in
-      front-passed (blockTests block out ++ edge) rest (front-numbered block out _ e f) front
+      front-passed (blockTests block out) edge (block-numbered block out) (passed-block block out opens size) ∙ one in
+      front-passed (blockTests block out ++ edge) rest (front-numbered chains block out _ e f) front
 
 -- ---- the removal
 
@@ -124,6 +140,7 @@ pub record Removes (block out : List ℕ) (e f : ℕ) : Type 0 where
   pub sound : Sound block e f
   pub size : length out ≡ blockBytes
   pub length-right : lengthWrong (siteOf (fieldsOf block) e f) ≡ false
+  pub closed-or-flat : notFlat (siteOf (fieldsOf block) e f) ≡ false
   pub room : noRoom (siteOf (fieldsOf block) e f) ≡ false
   pub way : noWay (siteOf (fieldsOf block) e f) ≡ false
   pub better : noneBetter (siteOf (fieldsOf block) e f) ≡ false
@@ -133,25 +150,28 @@ pub removes : (block out : List ℕ) (e f : ℕ) → removeAnswer block out e f 
 unfolding removeAnswer removalTests
 removes block out e f h =
     let site = siteOf (fieldsOf block) e f in
-    let (sound, size, rest) = reached block out e f (removalTests (fieldsOf block) site) 0 (front-numbered block out site e f) h in
+    let (sound, size, rest, closed) =
+    reached orChains block out e f (removalTests (fieldsOf block) site) 0 (front-numbered orChains block out site e f) h in
     let (a13, rest) = passed 12 (lengthWrong site) _ rest in
+    let (a19, rest) = passed 18 (notFlat site) _ rest in
     let (a14, rest) = passed 13 (noRoom site) _ rest in
     let (a15, rest) = passed 14 (noWay site) _ rest in
     let (a16, rest) = passed 15 (noneBetter site) _ rest in
     let (a17, rest) = passed 16 (totalDiffers (fieldsOf block) (patchAfter site)) _ rest in
-    record { sound = sound; size = size; length-right = a13; room = a14; way = a15; better = a16; same = a17 }
+    record { sound = sound; size = size; length-right = a13; closed-or-flat = a19; room = a14; way = a15; better = a16; same = a17 }
 
--- behind a sound edge and an output of the right length the answers 13 to 17 are left
+-- behind a sound edge and an output of the right length the answers 13 to 17 and 19 are left
 pub remove-left : (block out : List ℕ) (e f : ℕ) → Sound block e f → length out ≡ blockBytes
     → removeAnswer block out e f ≡ firstRefusal (removalTests (fieldsOf block) (siteOf (fieldsOf block) e f))
 unfolding removeAnswer
-remove-left block out e f sound size = left block out e f _ sound size
+remove-left block out e f sound size = left orChains block out e f _ (sound .opens) (sound .one) size
 
 -- ---- the 3-2 flip
 
 -- What answer 0 of a 3-2 flip says.
 pub record Flips32 (block out : List ℕ) (e f : ℕ) : Type 0 where
   pub sound : Sound block e f
+  pub closed : siteOf (fieldsOf block) e f .closed ≡ true
   pub size : length out ≡ blockBytes
   pub three : m (siteOf (fieldsOf block) e f) ≡ minRing
   pub way : noWay (siteOf (fieldsOf block) e f) ≡ false
@@ -160,15 +180,19 @@ pub flips-32 : (block out : List ℕ) (e f : ℕ) → flip32Answer block out e f
 unfolding flip32Answer flip32Tests
 flips-32 block out e f h =
     let site = siteOf (fieldsOf block) e f in
-    let (sound, size, rest) = reached block out e f (flip32Tests site) 0 (front-numbered block out site e f) h in
+    let (sound, size, rest, closed) =
+    reached ringsAlone block out e f (flip32Tests site) 0 (front-numbered ringsAlone block out site e f) h in
     let (a13, rest) = passed 12 (not (eqb (m site) minRing)) _ rest in
     let (a15, rest) = passed 14 (noWay site) _ rest in
-    record { sound = sound; size = size; three = eqb-true _ _ (not-false _ a13); way = a15 }
+    record { sound = sound; closed = closed refl; size = size; three = eqb-true _ _ (not-false _ a13); way = a15 }
 
-pub flip32-left : (block out : List ℕ) (e f : ℕ) → Sound block e f → length out ≡ blockBytes
+pub flip32-left : (block out : List ℕ) (e f : ℕ) → Sound block e f → siteOf (fieldsOf block) e f .closed ≡ true
+    → length out ≡ blockBytes
     → flip32Answer block out e f ≡ firstRefusal (flip32Tests (siteOf (fieldsOf block) e f))
 unfolding flip32Answer
-flip32-left block out e f sound size = left block out e f _ sound size
+flip32-left block out e f sound closed size =
+    left ringsAlone block out e f _ (sound .opens)
+    (ap firstRefusal (closed-tests ringsAlone (siteOf (fieldsOf block) e f) e f closed) ∙ sound .one) size
 
 -- ---- the 2-3 flip
 

@@ -1,7 +1,7 @@
 -- Law 19: a 3-2 flip after a 2-3 flip brings back the same two tetrahedra, if the two rows have one region and no row held both apexes.
 -- The three rows are a ring of three with one way to triangulate it, and its two rows are the two that went, evenly rearranged.
 use Prim.Native.Nat.{ℕ, _≤_}
-use mathlib.Core.Bool.{Bool, not}
+use mathlib.Core.Bool.{Bool, true, not}
 use mathlib.Core.List.{List, [], _∷_, _++_, List·Memᴰ, List·Memᴰ·head, List·Memᴰ·tail, List·Memᴰ·not-nil}
 use mathlib.Core.Logic.{_⊎_, inl, inr}
 use mathlib.Core.Path.{_≡_, refl, sym, ap, _∙_, subst}
@@ -19,8 +19,8 @@ use Rattle.mesh.proofs.Alike.{same-keeps, same-cons, same-append, same-swap}
 use Rattle.mesh.proofs.Evenly.{even-region}
 use Rattle.block.specs.Layout.{Patch, blockBytes, fieldsOf}
 use Rattle.block.specs.Answers.{firstRefusal}
-use Rattle.ring.specs.Ring.{Site, siteOf, m}
-use Rattle.ring.proofs.Rounding.{smallest-le}
+use Rattle.ring.specs.Ring.{Site, siteOf, m, orChains}
+use Rattle.ring.proofs.Smallest.{smallest-le}
 use Rattle.pieces.specs.Triangulation.{side, cut, span, regionOf, tableAfter}
 use Rattle.pieces.specs.Admissible.{admissible}
 use Rattle.pieces.specs.Best.{chosen}
@@ -34,7 +34,7 @@ use Rattle.patch.proofs.Written.{patch-is}
 use Rattle.patch.proofs.Third.{way-there, site-chosen}
 use Rattle.patch.proofs.Facing.{Facing}
 use Rattle.patch.proofs.Accepting.{flips-facing, flip23-accepted, flip32-accepted}
-use Rattle.patch.proofs.Threes.{rowsRound, ring-three, three-pass, three-table, one-tree}
+use Rattle.patch.proofs.Threes.{rowsRound, three-closed, ring-three, three-pass, three-table, one-tree}
 
 -- a table is what goes and what stays
 same-parts : (p : Row → Bool) (rows : List Row) → SameTetrahedra (those (λ row. not (p row)) rows ++ those p rows) rows
@@ -165,10 +165,16 @@ module _ (block out other : List ℕ) (x y z : ℕ) (done : flip23Answer block o
     sound : Sound between (pair .a) (pair .b)
     sound = record {
       opens = flip23-accepted block out x y z done .opens;
-      closed =
+      one =
           rw site-is
-          (three-pass (patch .points) (pair .kept) (pair .a) (pair .b) (t .q) (t .r) (t .s) region (f .less) low-r low-s rule none-kept);
+          (three-pass (patch .points) (pair .kept) (pair .a) (pair .b) (t .q) (t .r) (t .s) region (f .less) low-r low-s rule none-kept
+          orChains);
     }
+
+    closed : site .closed ≡ true
+    closed =
+        ap (λ (s : Site). s .closed) site-is
+        ∙ three-closed (patch .points) (pair .kept) (pair .a) (pair .b) (t .q) (t .r) (t .s) region (f .less) low-r low-s rule none-kept
 
     ring-is : site .ring ≡ t .q ∷ t .r ∷ t .s ∷ []
     ring-is =
@@ -207,7 +213,7 @@ module _ (block out other : List ℕ) (x y z : ℕ) (done : flip23Answer block o
       back-answer : flip32Answer between other (pair .a) (pair .b) ≡ 0
       unfolding flip32Tests firstRefusal
       back-answer =
-          flip32-left between other (pair .a) (pair .b) sound size
+          flip32-left between other (pair .a) (pair .b) sound closed size
           ∙ rw (eq-eqb (m site) 3 three, way-there between (pair .a) (pair .b) sound (omega (arith, three)) (cut side side) the-way)
 
       chosen-is : chosen site ≡ cut side side

@@ -1,32 +1,34 @@
--- Answers 14 to 17 of a removal, one by one: what decides each, given what the tests above it found.
+-- Answers 19 and 14 to 17 of a removal, one by one: what decides each, given what the tests above it found.
 use Prim.Native.Nat.{ℕ, suc, _+_, _-_, _*_, _≤_, _<_, min, max}
-use mathlib.Core.Bool.{true, false, cond, not}
+use mathlib.Core.Bool.{Bool, true, false, cond, not}
 use mathlib.Core.List.{List, [], _∷_, map}
 use mathlib.Core.Option.{Option, none, some, Option·getD}
 use mathlib.Core.Path.{_≡_, refl, sym, ap, _∙_, subst}
 use native.Mathlib.Omega.{arith}
 use borrow.Author.Tests.{lt-ltb, le-ltb, ne-eqb, ltb-false}
 use lib.Dec.{T, eqb}
-use lib.IntN.{ℤ}
-use lib.ListN.{length}
+use lib.IntN.{ℤ, pos}
+use lib.ListN.{length, getD, replicate, List·getD-append}
 use Rattle.lists.specs.Lists.{every, those}
 use Rattle.lists.proofs.Lists.{those-split}
 use Rattle.measure.specs.declared.Quality.{Quality}
 use Rattle.measure.specs.Measure.{pointsIn, sameZ, worse, worst, asGood, zeroQuality}
 use Rattle.measure.proofs.Points.{points-length}
-use Rattle.mesh.specs.Mesh.{rowsIn, holdsEdge, numbersFit, rowQuality, totalD}
+use Rattle.mesh.specs.declared.Row.{Row}
+use Rattle.mesh.specs.Mesh.{rowsIn, holdsEdge, numbersFit, rowD, rowQuality, totalD}
 use Rattle.mesh.proofs.Rule.{keeps-fits}
 use Rattle.mesh.proofs.Tables.{rows-length}
 use Rattle.block.specs.declared.Answer.the-variants.{Done, Refused}
 use Rattle.block.specs.Layout.{Patch, maxRows}
 use Rattle.block.specs.Answers.{firstRefusal, coordinateOver}
 use Rattle.block.proofs.Refusals.{passed, goes-on, refuses}
-use Rattle.tally.specs.Measured.{Measured, patchIn}
+use Rattle.tally.specs.Measured.{Placed, Measured, patchIn}
 use Rattle.ring.specs.declared.Ring.{Ring}
-use Rattle.ring.specs.Ring.{Site, siteOf, m}
+use Rattle.ring.specs.Ring.{Site, siteOf, m, maxRing, flat, notFlat}
+use Rattle.ring.specs.Sound.{SoundRing}
 use Rattle.pieces.specs.declared.Best.the-variants.{Mark, Worst}
 use Rattle.pieces.specs.Triangulation.{tableAfter, rowsAfter}
-use Rattle.pieces.specs.Best.{bestWorst, chosen, sameBest}
+use Rattle.pieces.specs.Best.{tableBest, chosen, sameBest}
 use Rattle.pieces.specs.Filling.{siteIn, bestOf}
 use Rattle.pieces.proofs.Optimal.{none-best}
 use Rattle.output.specs.Output.{tableBytes}
@@ -46,8 +48,16 @@ unfolding sameBest
 best-kept q none h = absurd h
 best-kept q (some r) h = (r, refl, h)
 
-module _ (coordinates : List ℕ) (count : ℕ) (table : List ℕ) (n a b : ℕ) {ring : Ring}
-    (given : Ringed coordinates count table n a b ring) where
+-- of a ring or a chain of three points at least two rows go
+pub two-go : (site : Site) → SoundRing site → m site ≡ 3 → 2 ≤ length (site .removed)
+two-go site sound three = go (site .closed) (sound .size)
+  where
+    go : (closed : Bool) → length (site .removed) + cond closed 0 1 ≡ m site → 2 ≤ length (site .removed)
+    go true size = omega arith
+    go false size = omega arith
+
+module _ (coordinates : List ℕ) (count : ℕ) (table : List ℕ) (n a b : ℕ) {closed : Bool} {ring : Ring}
+    (given : Ringed coordinates count table n a b closed ring) where
   abbrev its : Site
   its = siteIn coordinates count table n a b
 
@@ -64,18 +74,85 @@ module _ (coordinates : List ℕ) (count : ℕ) (table : List ℕ) (n a b : ℕ)
   unfolding siteOf
   all-rows = those-split (holdsEdge (min a b) (max a b)) (rowsIn table n) ∙ rows-length table n
 
-  pub ring-fits : ring .m ≤ n
-  ring-fits = omega (arith, ring-size, given .size, all-rows)
-
   pub ring-long : 2 ≤ ring .m
   ring-long = omega (arith, ring-size, three)
 
-  room-is : n - ring .m + 2 * (ring .m - 2) ≡ rowsAfter its
-  room-is = omega (arith, ring-size, given .size, all-rows)
+  -- the rows that go
+  module _ (gone : ℕ) (gone-is : gone + cond closed 0 1 ≡ ring .m) where
+    gone-rows : gone ≡ length (its .removed)
+    gone-rows =
+        let own : gone + cond (its .closed) 0 1 ≡ m its = rw (given .ready .is-closed) at gone-is ∙ ring-size in
+        omega (arith, own, given .sound .size)
+
+    pub gone-fit : gone ≤ n
+    gone-fit = omega (arith, gone-rows, all-rows)
+
+    room-is : n - gone + 2 * (ring .m - 2) ≡ rowsAfter its
+    room-is = omega (arith, gone-rows, ring-size, all-rows)
 
   -- a 3-2 flip always has room
   pub room-32 : ring .m ≡ 3 → rowsAfter its ≤ maxRows
-  room-32 e = omega (arith, ring-size, given .size, all-rows, given .ready .few-rows)
+  room-32 e =
+      let own : m its ≡ 3 = sym ring-size ∙ e in
+      omega (arith, own, two-go its (given .sound) own, all-rows, given .ready .few-rows)
+
+  -- ---- the row across an open chain
+
+  least : min a b ≡ a
+  least = omega (arith, given .ready .ordered)
+
+  most : max a b ≡ b
+  most = omega (arith, given .ready .ordered)
+
+  pub ring-short : ring .m ≤ maxRing
+  ring-short = omega (arith, ring-size, given .ready .short)
+
+  at-place : (i : ℕ) → i < m its → getD (ring .v) i 0 ≡ getD (its .ring) i 0
+  at-place i h =
+      ap (λ (r : Ring). getD (r .v) i 0) (given .ready .found)
+      ∙ List·getD-append (its .ring) (replicate (maxRing - m its) 0) 0 i h
+
+  -- its points: a, b, v1 and vm
+  abbrev across : Row
+  across = record { p = a; q = b; r = getD (ring .v) 0 0; s = getD (ring .v) (ring .m - 1) 0; region = 0 }
+
+  first-place : getD (ring .v) 0 0 ≡ getD (its .ring) 0 0
+  first-place = at-place 0 (omega (arith, three))
+
+  last-place : getD (ring .v) (ring .m - 1) 0 ≡ getD (its .ring) (m its - 1) 0
+  last-place = ap (λ k. getD (ring .v) (k - 1) 0) ring-size ∙ at-place (m its - 1) (omega (arith, three))
+
+  pub across-placed : Placed coordinates count across
+  across-placed = record {
+    points-held = given .ready .points;
+    below-p = omega (arith, given .ready .ordered, given .ready .below);
+    below-q = given .ready .below;
+    below-r = rw first-place (given .ready .ring-below 0 (omega (arith, three)));
+    below-s = rw last-place (given .ready .ring-below (m its - 1) (omega (arith, three)));
+  }
+
+  own-a : its .a ≡ a
+  unfolding siteOf
+  own-a = least
+
+  own-b : its .b ≡ b
+  unfolding siteOf
+  own-b = most
+
+  own-points : its .points ≡ pointsIn coordinates count
+  unfolding siteOf
+  own-points = refl
+
+  -- a closed ring passes
+  pub closed-passes : closed ≡ true → false ≡ notFlat its
+  closed-passes e = let own : its .closed ≡ true = sym (given .ready .is-closed) ∙ e in rw own
+
+  -- an open chain passes if D of the row across it is 0
+  pub open-judged : closed ≡ false → (d : ℤ) → d ≡ rowD (pointsIn coordinates count) across → not (sameZ d (pos 0)) ≡ notFlat its
+  unfolding flat rowD
+  open-judged e d d-is =
+      let own : its .closed ≡ false = sym (given .ready .is-closed) ∙ e in
+      rw (own, d-is, first-place, last-place, own-a, own-b, own-points)
 
   -- the rows afterwards can be measured
   module _ (rows : Rows) (rows-are : rows ≡ rowsWith (tableAfter its (chosen its))) (way : noWay its ≡ false)
@@ -107,11 +184,11 @@ module _ (coordinates : List ℕ) (count : ℕ) (table : List ℕ) (n a b : ℕ)
     pub marked : way .best ≡ Mark → noWay its ≡ true
     marked e =
         mark-no-way its (given .sound) three
-        (none-best (bestWorst its 1 (m its)) (subst (λ best. T (sameBest (bestOf best) (bestWorst its 1 (m its)))) e (carries .best)))
+        (none-best (tableBest its 1 (m its)) (subst (λ best. T (sameBest (bestOf best) (tableBest its 1 (m its)))) e (carries .best)))
 
     module _ (q : Quality) (is : way .best ≡ Worst q) where
-      kept : (r : Quality) × (bestWorst its 1 (m its) ≡ some r) × T (asGood q r)
-      kept = best-kept q (bestWorst its 1 (m its)) (subst (λ best. T (sameBest (bestOf best) (bestWorst its 1 (m its)))) is (carries .best))
+      kept : (r : Quality) × (tableBest its 1 (m its) ≡ some r) × T (asGood q r)
+      kept = best-kept q (tableBest its 1 (m its)) (subst (λ best. T (sameBest (bestOf best) (tableBest its 1 (m its)))) is (carries .best))
 
       pub unmarked : noWay its ≡ false
       unmarked = best-some-way its (given .sound) three (kept .1)
@@ -123,18 +200,28 @@ module _ (coordinates : List ℕ) (count : ℕ) (table : List ℕ) (n a b : ℕ)
   unfolding planWith
   refusal k e = rw (e, ne-eqb (suc k) 0 (λ z. omega arith))
 
-  pub gives-14 : maxRows < n - ring .m + 2 * (ring .m - 2) → noPlan (Refused 14) ≡ planOf patch its
+  pub gives-19 : notFlat its ≡ true → noPlan (Refused 19) ≡ planOf patch its
   unfolding planAnswer
-  gives-14 h = refusal 13 (refuses 14 (noRoom its) _ (lt-ltb maxRows (rowsAfter its) (omega (arith, room-is))))
+  gives-19 h = refusal 18 (refuses 19 (notFlat its) _ h)
 
-  module _ (room : n - ring .m + 2 * (ring .m - 2) ≤ maxRows) where
-    pub has-room : rowsAfter its ≤ maxRows
-    has-room = omega (arith, room-is)
+  passed-19 : notFlat its ≡ false
+      → planAnswer patch its
+      ≡ firstRefusal ((14, noRoom its) ∷ (15, noWay its) ∷ (16, noneBetter its) ∷ (17, totalDiffers patch (patchAfter its)) ∷ [])
+  unfolding planAnswer
+  passed-19 level = goes-on 19 (notFlat its) _ level
 
+  pub gives-14 : notFlat its ≡ false → (gone : ℕ) → gone + cond closed 0 1 ≡ ring .m → maxRows < n - gone + 2 * (ring .m - 2)
+      → noPlan (Refused 14) ≡ planOf patch its
+  gives-14 level gone gone-is h =
+      refusal 13 (passed-19 level ∙ refuses 14 (noRoom its) _ (lt-ltb maxRows (rowsAfter its) (omega (arith, room-is gone gone-is))))
+
+  pub has-room : (gone : ℕ) → gone + cond closed 0 1 ≡ ring .m → n - gone + 2 * (ring .m - 2) ≤ maxRows → rowsAfter its ≤ maxRows
+  has-room gone gone-is h = omega (arith, room-is gone gone-is)
+
+  module _ (level : notFlat its ≡ false) (room : rowsAfter its ≤ maxRows) where
     passed-14 : planAnswer patch its
         ≡ firstRefusal ((15, noWay its) ∷ (16, noneBetter its) ∷ (17, totalDiffers patch (patchAfter its)) ∷ [])
-    unfolding planAnswer
-    passed-14 = goes-on 14 (noRoom its) _ (le-ltb maxRows (rowsAfter its) has-room)
+    passed-14 = passed-19 level ∙ goes-on 14 (noRoom its) _ (le-ltb maxRows (rowsAfter its) room)
 
     module _ (way : Carried) (carries : Carries its way) where
       pub gives-15 : way .best ≡ Mark → noPlan (Refused 15) ≡ planOf patch its
@@ -150,10 +237,7 @@ module _ (coordinates : List ℕ) (count : ℕ) (table : List ℕ) (n a b : ℕ)
 
         round-now : round ≡ worstNow its
         unfolding worstNow siteOf
-        round-now =
-            let least : min a b ≡ a = omega (arith, given .ready .ordered) in
-            let most : max a b ≡ b = omega (arith, given .ready .ordered) in
-            rw (least, most)
+        round-now = rw (least, most)
 
         module _ (now : Quality) (now-is : now ≡ round) where
           decides : noneBetter its ≡ not (worse now q)
@@ -166,10 +250,10 @@ module _ (coordinates : List ℕ) (count : ℕ) (table : List ℕ) (n a b : ℕ)
           gives-16 e = refusal 15 (passed-15 ∙ refuses 16 (noneBetter its) _ (decides ∙ ap not e))
 
           after : way .rows ≡ rowsWith (tableAfter its (chosen its))
-          after = carries .rows
+          after = carries .rows q (ap bestOf is)
 
           pub measured-way : Measured coordinates count (way .rows .table) (way .rows .n)
-          measured-way = measured-after (way .rows) after (unmarked way carries q is) has-room
+          measured-way = measured-after (way .rows) after (unmarked way carries q is) room
 
           module _ (better : worse now q ≡ true) (before total : ℤ)
               (before-is : before ≡ totalD (pointsIn coordinates count) (rowsIn table n))
@@ -179,7 +263,7 @@ module _ (coordinates : List ℕ) (count : ℕ) (table : List ℕ) (n a b : ℕ)
 
             totals : totalDiffers patch (patchAfter its) ≡ not (sameZ before total)
             unfolding totalDiffers patchAfter siteOf
-            totals = rw (before-is, total-is, rows-after (way .rows) after (unmarked way carries q is) has-room)
+            totals = rw (before-is, total-is, rows-after (way .rows) after (unmarked way carries q is) room)
 
             pub gives-17 : not (sameZ before total) ≡ true → noPlan (Refused 17) ≡ planOf patch its
             gives-17 h = refusal 16 (passed-16 ∙ refuses 17 _ _ (totals ∙ h))
@@ -210,7 +294,8 @@ module _ (coordinates : List ℕ) (count : ℕ) (table : List ℕ) (n a b : ℕ)
       passes : (noRoom its ≡ false) × (noWay its ≡ false)
       unfolding planAnswer
       passes =
-          let (a14, rest) = passed 13 (noRoom its) _ plan-passes in
+          let (a19, rest) = passed 18 (notFlat its) _ plan-passes in
+          let (a14, rest) = passed 13 (noRoom its) _ rest in
           let (a15, rest) = passed 14 (noWay its) _ rest in
           (a14, a15)
 

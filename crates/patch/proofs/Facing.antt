@@ -23,7 +23,7 @@ use Rattle.mesh.proofs.Measured.{even-D, total-split}
 use Rattle.mesh.proofs.Rule.{keeps-fits, keeps-hits}
 use Rattle.block.specs.Layout.{Patch}
 use Rattle.ring.specs.Ring.{smallest, numbersWrong}
-use Rattle.ring.proofs.Rounding.{smallest-in}
+use Rattle.ring.proofs.Smallest.{smallest-in}
 use Rattle.pieces.proofs.Total.{total-append}
 use Rattle.patch.specs.Flipping.{Pair, pairOf, threeRows, patchAfter23}
 use Rattle.patch.proofs.Pairs.{Over, AllOver, row-over, the-two, both-over, b-last, upA}

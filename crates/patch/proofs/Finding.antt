@@ -71,9 +71,9 @@ module _ (count e f : ℕ) where
 
 -- ---- what is found
 
-module _ (block out : List ℕ) (e f : ℕ) where
+module _ (chains : Bool) (block out : List ℕ) (e f : ℕ) where
   abbrev edge : Tests
-  edge = edgeTests (siteOf (fieldsOf block) e f) e f
+  edge = edgeTests chains (siteOf (fieldsOf block) e f) e f
 
   abbrev length-test : Tests
   length-test = (13, lengthWrong (siteOf (fieldsOf block) e f)) ∷ []
@@ -82,16 +82,16 @@ module _ (block out : List ℕ) (e f : ℕ) where
   blocks = answerOf (firstRefusal (blockTests block out))
 
   -- a refusal, with its number and nothing else
-  none-found : (n : ℕ) → edgeAnswer block out e f ≡ suc n → foundNone (Refused (suc n)) ≡ edgeFound block out e f
+  none-found : (n : ℕ) → edgeAnswer chains block out e f ≡ suc n → foundNone (Refused (suc n)) ≡ edgeFound chains block out e f
   unfolding edgeFound
   none-found n h = rw (h, ne-eqb (suc n) 0 (λ z. omega arith))
 
   -- 1 to 8
-  pub edge-blocked : (answer : Answer) (n : ℕ) → answer ≡ blocks → answer ≡ Refused n → foundNone answer ≡ edgeFound block out e f
+  pub edge-blocked : (answer : Answer) (n : ℕ) → answer ≡ blocks → answer ≡ Refused n → foundNone answer ≡ edgeFound chains block out e f
   unfolding edgeAnswer edgeFound
   edge-blocked answer n i j =
       let d = answer-refused (firstRefusal (blockTests block out)) n (sym i ∙ j) in
-      let h : edgeAnswer block out e f ≡ firstRefusal (blockTests block out) =
+      let h : edgeAnswer chains block out e f ≡ firstRefusal (blockTests block out) =
       ap firstRefusal (append-assoc (blockTests block out) edge length-test)
       ∙ front-refuses (blockTests block out) (edge ++ length-test) d in
       rw (i, h, ne-eqb (firstRefusal (blockTests block out)) 0 d)
@@ -104,24 +104,24 @@ module _ (block out : List ℕ) (e f : ℕ) where
     edge-opens = block-passed block out passed-blocks .0
 
     -- 9 to 13 are left
-    edge-left : edgeAnswer block out e f ≡ firstRefusal
-        ((9, numbersWrong (length (siteOf (fieldsOf block) e f .points)) (e ∷ f ∷ [])) ∷ ringTests (siteOf (fieldsOf block) e f))
+    edge-left : edgeAnswer chains block out e f ≡ firstRefusal
+        ((9, numbersWrong (length (siteOf (fieldsOf block) e f .points)) (e ∷ f ∷ [])) ∷ ringTests chains (siteOf (fieldsOf block) e f))
     unfolding edgeAnswer edgeTests ringTests
     edge-left =
         ap firstRefusal (append-assoc (blockTests block out) edge length-test)
         ∙ front-passed (blockTests block out) (edge ++ length-test) (block-numbered block out) passed-blocks
 
-    wrong-numbers : numbersWrong (pointCount block) (e ∷ f ∷ []) ≡ true → foundNone (Refused 9) ≡ edgeFound block out e f
+    wrong-numbers : numbersWrong (pointCount block) (e ∷ f ∷ []) ≡ true → foundNone (Refused 9) ≡ edgeFound chains block out e f
     unfolding siteOf
     wrong-numbers w = none-found 8 (edge-left ∙ refuses 9 _ _ (ap (λ count. numbersWrong count (e ∷ f ∷ [])) (points-counted block) ∙ w))
 
-    pub edge-9-first : pointCount block ≤ e → foundNone (Refused 9) ≡ edgeFound block out e f
+    pub edge-9-first : pointCount block ≤ e → foundNone (Refused 9) ≡ edgeFound chains block out e f
     edge-9-first h = wrong-numbers (first-over (pointCount block) e f h)
 
-    pub edge-9-second : e < pointCount block → pointCount block ≤ f → foundNone (Refused 9) ≡ edgeFound block out e f
+    pub edge-9-second : e < pointCount block → pointCount block ≤ f → foundNone (Refused 9) ≡ edgeFound chains block out e f
     edge-9-second h k = wrong-numbers (second-over (pointCount block) e f h k)
 
-    pub edge-9-same : e < pointCount block → f < pointCount block → e ≡ f → foundNone (Refused 9) ≡ edgeFound block out e f
+    pub edge-9-same : e < pointCount block → f < pointCount block → e ≡ f → foundNone (Refused 9) ≡ edgeFound chains block out e f
     edge-9-same h k q = wrong-numbers (both-one (pointCount block) e f h k q)
 
     -- 10 to 13, and the ring
@@ -135,12 +135,13 @@ module _ (block out : List ℕ) (e f : ℕ) where
     }
 
     pub edge-ring : (a b : ℕ) → a ≡ min e f → b ≡ max e f → e < pointCount block → f < pointCount block → (e ≡ f → ⊥) → (found : Found)
-        → found ≡ foundOf (edgeIn (rowsIn (tableOf block) (rowCount block)) a b) → found ≡ edgeFound block out e f
+        → found ≡ foundOf chains (edgeIn (rowsIn (tableOf block) (rowCount block)) a b) → found ≡ edgeFound chains block out e f
     unfolding fieldsOf siteOf edgeFound foundOf
     edge-ring a b p q h k apart found g =
         let fine = ap (λ count. numbersWrong count (e ∷ f ∷ [])) (points-counted block) ∙ numbers-fine (pointCount block) e f h k apart in
-        let left : edgeAnswer block out e f ≡ firstRefusal (ringTests (siteOf (fieldsOf block) e f)) = edge-left ∙ goes-on 9 _ _ fine in
+        let left : edgeAnswer chains block out e f ≡ firstRefusal (ringTests chains (siteOf (fieldsOf block) e f)) =
+        edge-left ∙ goes-on 9 _ _ fine in
         let ordered : edgeIn (rowsIn (tableOf block) (rowCount block)) a b ≡ edgeIn (rowsIn (tableOf block) (rowCount block)) e f =
         rw (p, q) (site-ordered (record { points = []; rows = rowsIn (tableOf block) (rowCount block) }) e f) in
-        let own : foundOf (siteOf (fieldsOf block) e f) ≡ edgeFound block out e f = rw left in
-        g ∙ (ap foundOf ordered ∙ (sym (found-rows (fieldsOf block) e f) ∙ own))
+        let own : foundOf chains (siteOf (fieldsOf block) e f) ≡ edgeFound chains block out e f = rw left in
+        g ∙ (ap (foundOf chains) ordered ∙ (sym (found-rows chains (fieldsOf block) e f) ∙ own))

@@ -27,7 +27,7 @@ use Rattle.block.specs.Answers.{Tests, firstRefusal, notBlock}
 use Rattle.block.proofs.Refusals.{passed, refuses}
 use Rattle.ring.specs.Ring.{Link, link, numbersWrong}
 use Rattle.ring.proofs.Linking.{link-is}
-use Rattle.ring.proofs.Rounding.{smallest-same}
+use Rattle.ring.proofs.Smallest.{smallest-same}
 use Rattle.ring.proofs.Order.{row-across}
 use Rattle.pieces.proofs.Across.{those-across, length-across}
 use Rattle.patch.specs.Flipping.{apexOver, Pair, pairOf, threeRows, patchAfter23, flip23Tests, flip23Answer}

@@ -14,9 +14,9 @@ use Rattle.lists.proofs.Places.{in-cases}
 use Rattle.mesh.specs.declared.Row.{Row}
 use Rattle.mesh.specs.Mesh.{numbers, holds, holdsFace, noRow}
 use Rattle.block.specs.Layout.{Patch, fieldsOf}
-use Rattle.ring.specs.Ring.{Site, siteOf, smallest, numbersWrong, edgeTests}
+use Rattle.ring.specs.Ring.{Site, siteOf, smallest, numbersWrong, ringsAlone, orChains, edgeTests}
 use Rattle.ring.proofs.Order.{site-swap, numbers-swap}
-use Rattle.ring.proofs.Rounding.{smallest-in, smallest-le, smallest-is}
+use Rattle.ring.proofs.Smallest.{smallest-in, smallest-le, smallest-is}
 use Rattle.patch.specs.Removing.{removeAnswer, removeBytes, removeGives}
 use Rattle.patch.specs.Flipping.{flip32Answer, flip32Bytes, apexOver, Pair, pairOf, threeRows, patchAfter23, flip23Tests}
 use Rattle.patch.specs.Flipping.{flip23Answer, flip23Bytes}
@@ -25,14 +25,14 @@ use Rattle.patch.proofs.First.{gives-done, gives-refused}
 
 -- ---- the ends
 
-edge-swap : (site : Site) (e f : ℕ) → edgeTests site e f ≡ edgeTests site f e
+edge-swap : (chains : Bool) (site : Site) (e f : ℕ) → edgeTests chains site e f ≡ edgeTests chains site f e
 unfolding edgeTests
-edge-swap site e f = rw (numbers-swap (length (site .points)) e f)
+edge-swap chains site e f = rw (numbers-swap (length (site .points)) e f)
 
 module _ (block out : List ℕ) (e f : ℕ) where
   remove-answer-swap : removeAnswer block out e f ≡ removeAnswer block out f e
   unfolding removeAnswer
-  remove-answer-swap = rw (site-swap (fieldsOf block) e f, edge-swap (siteOf (fieldsOf block) f e) e f)
+  remove-answer-swap = rw (site-swap (fieldsOf block) e f, edge-swap orChains (siteOf (fieldsOf block) f e) e f)
 
   remove-bytes-swap : removeBytes block out e f ≡ removeBytes block out f e
   unfolding removeBytes
@@ -47,7 +47,7 @@ module _ (block out : List ℕ) (e f : ℕ) where
 
   flip32-answer-swap : flip32Answer block out e f ≡ flip32Answer block out f e
   unfolding flip32Answer
-  flip32-answer-swap = rw (site-swap (fieldsOf block) e f, edge-swap (siteOf (fieldsOf block) f e) e f)
+  flip32-answer-swap = rw (site-swap (fieldsOf block) e f, edge-swap ringsAlone (siteOf (fieldsOf block) f e) e f)
 
   flip32-bytes-swap : flip32Bytes block out e f ≡ flip32Bytes block out f e
   unfolding flip32Bytes

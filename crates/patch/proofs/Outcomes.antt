@@ -23,11 +23,11 @@ use Rattle.tally.specs.Measured.{patchIn}
 use Rattle.tally.specs.Summing.{worstOfPatch}
 use Rattle.ring.specs.declared.Ring.{Ring}
 use Rattle.ring.specs.declared.Found.{Found}
-use Rattle.ring.specs.Ring.{Site, siteOf, m, minRing, maxRing, lengthWrong, ringWith}
+use Rattle.ring.specs.Ring.{Site, siteOf, m, minRing, maxRing, ringsAlone, orChains, lengthWrong, ringWith}
 use Rattle.pieces.specs.Triangulation.{tableAfter, rowsAfter}
 use Rattle.pieces.specs.Best.{chosen}
 use Rattle.pieces.specs.declared.Best.the-variants.{Mark, Worst}
-use Rattle.pieces.specs.Filling.{siteIn}
+use Rattle.pieces.specs.Filling.{siteIn, bestOf}
 use Rattle.output.specs.Output.{Ready, patchWith}
 use Rattle.output.proofs.Tables.{table-read}
 use Rattle.output.proofs.Written.{table-ready}
@@ -42,9 +42,9 @@ use Rattle.patch.specs.Flipping.{flip32Answer, flip32Bytes}
 use Rattle.patch.specs.Steps.{edgeFound, Ringed, Carries, rowsWith, planWith, planOf, planAnswer, noPlan, noOutcome, outcomeOf}
 use Rattle.patch.specs.Steps.{flipOf}
 use Rattle.patch.proofs.Answering.{removes, flips-32}
-use Rattle.patch.proofs.Sites.{sound-site, site-length}
+use Rattle.patch.proofs.Sites.{sound-site}
 use Rattle.patch.proofs.Deciding.{chosen-rows}
-use Rattle.patch.proofs.Decided.{plan-passes, plan-rows, plan-after, marked, unmarked}
+use Rattle.patch.proofs.Decided.{two-go, plan-passes, plan-rows, plan-after, marked, unmarked}
 use Rattle.patch.proofs.Handed.{Number, handed-done}
 use Rattle.patch.proofs.Opens.{few-rows}
 use Rattle.patch.proofs.Ringing.{found-refused, remove-refused, flip-refused, remove-rest, flip-13, flip-15, flip-0, own-site}
@@ -89,7 +89,7 @@ module _ (block out : List ℕ) (e f : ℕ) where
   three-rows sound three =
       omega (
         arith,
-        site-length block e f sound,
+        two-go site (sound-site block e f sound) three,
         those-split (holdsEdge (min e f) (max e f)) (fieldsOf block .rows),
         rows-counted block,
         few-rows block (sound .opens),
@@ -126,25 +126,25 @@ module _ (block out : List ℕ) (e f : ℕ) where
       ap noOutcome (k .handed) ∙ own ∙ ap outcome (sym (k .answer)) ∙ sym by-answer
 
   -- answers 1 to 13
-  pub edge-refuses : (found : Found) → found ≡ edgeFound block out e f → (n : ℕ) → found .answer ≡ Answer.Refused n
+  pub edge-refuses : (found : Found) → found ≡ edgeFound orChains block out e f → (n : ℕ) → found .answer ≡ Answer.Refused n
       → noOutcome n ≡ outcomeOf block out e f
   edge-refuses found i n h =
-      let k = found-refused block out e f found i n h in
+      let k = found-refused orChains block out e f found i n h in
       refused-outcome n (record { less = k .less; answer = remove-refused block out e f (k .less) (k .answer); handed = k .handed })
 
-  module _ (found : Found) (i : found ≡ edgeFound block out e f) (h : found .answer ≡ Answer.Done) (a b : ℕ)
+  module _ (found : Found) (i : found ≡ edgeFound orChains block out e f) (h : found .answer ≡ Answer.Done) (a b : ℕ)
       (p : a ≡ min e f) (q : b ≡ max e f) where
     abbrev its : Site
     its = siteIn (coordinatesOf block) (pointCount block) (tableOf block) (rowCount block) a b
 
     its-site : its ≡ site
-    its-site = own-site block out e f found i h a b p q
+    its-site = own-site orChains block out e f found i h a b p q
 
-    -- 14 to 17
+    -- 19 and 14 to 17
     plan-answer : planAnswer (patchIn (coordinatesOf block) (pointCount block) (tableOf block) (rowCount block)) its
         ≡ removeAnswer block out e f
     unfolding fieldsOf
-    plan-answer = ap (planAnswer (fieldsOf block)) its-site ∙ sym (remove-rest block out e f found i h)
+    plan-answer = ap (planAnswer (fieldsOf block)) its-site ∙ sym (remove-rest orChains block out e f found i h)
 
     pub plan-refuses : (n : ℕ)
         → Number (planAnswer (patchIn (coordinatesOf block) (pointCount block) (tableOf block) (rowCount block)) its) n
@@ -156,8 +156,9 @@ module _ (block out : List ℕ) (e f : ℕ) where
         (k : planned .answer ≡ Answer.Done) (row : PageRow)
         (row-is : row ≡ pageRow (shown (worstOfPatch (patchIn (coordinatesOf block) (pointCount block) (tableOf block) (rowCount block))))
         (shown (worstOfPatch (patchIn (coordinatesOf block) (pointCount block) (planned .rows .table) (planned .rows .n))))) where
-      given-ring : Ringed (coordinatesOf block) (pointCount block) (tableOf block) (rowCount block) a b (found .ring)
-      given-ring = ringed block out e f found i h a b p q
+      given-ring : Ringed (coordinatesOf block) (pointCount block) (tableOf block) (rowCount block) a b (found .closed)
+          (found .ring)
+      given-ring = ringed orChains block out e f found i h a b p q
 
       zero-answer : removeAnswer block out e f ≡ 0
       zero-answer =
@@ -182,7 +183,7 @@ module _ (block out : List ℕ) (e f : ℕ) where
       done-outcome =
           let own : _≡_ {A = Outcome} (record { removed = record { removal = Done row; ring = found .ring }; rows = planned .rows })
           (outcome 0) =
-          rw (own-page, own-ring block out e f found i h, own-rows) in
+          rw (own-page, own-ring orChains block out e f found i h, own-rows) in
           own ∙ ap outcome (sym zero-answer) ∙ sym by-answer
 
   -- ---- carrying out a removal
@@ -233,26 +234,28 @@ module _ (block out : List ℕ) (e f : ℕ) where
   refused-plan n k = rw (k .answer, k .handed, ne-eqb (suc (k .less)) 0 (λ z. omega arith))
 
   -- answers 1 to 13
-  pub edge-refuses-flip : (found : Found) → found ≡ edgeFound block out e f → (n : ℕ) → found .answer ≡ Answer.Refused n
+  pub edge-refuses-flip : (found : Found) → found ≡ edgeFound ringsAlone block out e f → (n : ℕ) → found .answer ≡ Answer.Refused n
       → noPlan (found .answer) ≡ flipOf block out e f
   edge-refuses-flip found i n h =
-      let k = found-refused block out e f found i n h in
+      let k = found-refused ringsAlone block out e f found i n h in
       ap noPlan h ∙ refused-plan n
       (record { less = k .less; answer = flip-refused block out e f (k .less) (k .answer); handed = k .handed })
 
-  module _ (found : Found) (i : found ≡ edgeFound block out e f) (h : found .answer ≡ Answer.Done) where
+  module _ (found : Found) (i : found ≡ edgeFound ringsAlone block out e f) (h : found .answer ≡ Answer.Done) where
     ring-length : found .ring .m ≡ m site
-    ring-length = ap (λ (r : Ring). r .m) (own-ring block out e f found i h)
+    ring-length = ap (λ (r : Ring). r .m) (own-ring ringsAlone block out e f found i h)
 
     pub not-three : (found .ring .m ≡ minRing → ⊥) → noPlan (Answer.Refused 13) ≡ flipOf block out e f
-    not-three d = refused-plan 13 (record { less = 12; answer = flip-13 block out e f found i h (λ q. d (ring-length ∙ q)); handed = refl })
+    not-three d =
+        refused-plan 13
+        (record { less = 12; answer = flip-13 ringsAlone block out e f found i h refl (λ q. d (ring-length ∙ q)); handed = refl })
 
     module _ (three : found .ring .m ≡ minRing) (a b : ℕ) (p : a ≡ min e f) (q : b ≡ max e f) where
       abbrev those-rows : Site
       those-rows = siteIn (coordinatesOf block) (pointCount block) (tableOf block) (rowCount block) a b
 
       those-site : those-rows ≡ site
-      those-site = own-site block out e f found i h a b p q
+      those-site = own-site ringsAlone block out e f found i h a b p q
 
       three-points : m site ≡ minRing
       three-points = sym ring-length ∙ three
@@ -261,19 +264,20 @@ module _ (block out : List ℕ) (e f : ℕ) where
         pub no-way : way .best ≡ Mark → noPlan (Answer.Refused 15) ≡ flipOf block out e f
         no-way e15 =
             let none = marked (coordinatesOf block) (pointCount block) (tableOf block) (rowCount block) a b
-            (ringed block out e f found i h a b p q) way carries e15 in
+            (ringed ringsAlone block out e f found i h a b p q) way carries e15 in
             let own = subst (λ (s : Site). noWay s ≡ true) those-site none in
-            refused-plan 15 (record { less = 14; answer = flip-15 block out e f found i h three-points own; handed = refl })
+            refused-plan 15 (record { less = 14; answer = flip-15 ringsAlone block out e f found i h refl three-points own; handed = refl })
 
         pub flip-done : (best : Quality) → way .best ≡ Worst best
             → _≡_ {A = Plan} (record { answer = found .answer; rows = way .rows }) (flipOf block out e f)
         unfolding planWith
         flip-done best is =
             let some-way = unmarked (coordinatesOf block) (pointCount block) (tableOf block) (rowCount block) a b
-            (ringed block out e f found i h a b p q) way carries best is in
+            (ringed ringsAlone block out e f found i h a b p q) way carries best is in
             let own = subst (λ (s : Site). noWay s ≡ false) those-site some-way in
-            let rows : way .rows ≡ rowsWith after = carries .rows ∙ ap (λ (s : Site). rowsWith (tableAfter s (chosen s))) those-site in
-            rw (h, rows, flip-0 block out e f found i h three-points own)
+            let rows : way .rows ≡ rowsWith after =
+            carries .rows best (ap bestOf is) ∙ ap (λ (s : Site). rowsWith (tableAfter s (chosen s))) those-site in
+            rw (h, rows, flip-0 ringsAlone block out e f found i h refl three-points own)
 
   -- ---- carrying out a 3-2 flip
 

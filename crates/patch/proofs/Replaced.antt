@@ -1,6 +1,6 @@
 -- The rows that stay, with the new rows of the chosen triangulation behind them, are the table afterwards; and the region of the new rows.
 use Prim.Native.Nat.{ℕ, suc, _+_, _-_, _*_, _≤_, _<_, min, max}
-use mathlib.Core.Bool.{true, false}
+use mathlib.Core.Bool.{Bool, true, false}
 use mathlib.Core.List.{List, [], _∷_, _++_, flatMap}
 use mathlib.Core.Path.{_≡_, sym, ap, _∙_}
 use native.Mathlib.Numerals.{add-one}
@@ -17,10 +17,12 @@ use Rattle.ring.specs.Ring.{Site, siteOf, m, maxRing}
 use Rattle.pieces.specs.declared.Best.{Best}
 use Rattle.pieces.specs.declared.Pieces.{Pieces}
 use Rattle.pieces.specs.Triangulation.{newRows, tableAfter, rowsAfter, regionOf}
+use Rattle.pieces.specs.Admissible.{shut}
 use Rattle.pieces.specs.Best.{Keeps, chosen, chosenOf, cellAt}
 use Rattle.pieces.specs.Filling.{siteIn, bestOf, readBest, cells}
 use Rattle.pieces.specs.Expanding.{Between, Follows}
-use Rattle.pieces.proofs.Optimal.{read-kept, kept-between, kept-follows}
+use Rattle.pieces.proofs.Optimal.{read-kept, kept-best, kept-between, kept-follows}
+use Rattle.pieces.proofs.Shut.{whole-is}
 use Rattle.output.specs.Output.{staying, tableBytes, tableWith}
 use Rattle.output.proofs.Staying.{edge-staying}
 use Rattle.output.proofs.Tables.{table-size, table-front, table-append}
@@ -63,7 +65,8 @@ module _ (table : List ℕ) (n a b : ℕ) where
 
 -- ---- the rows afterwards
 
-module _ (coordinates : List ℕ) (count : ℕ) (table : List ℕ) (n a b : ℕ) {ring : Ring} (given : Ringed coordinates count table n a b ring)
+module _ (coordinates : List ℕ) (count : ℕ) (table : List ℕ) (n a b : ℕ) {closed : Bool} {ring : Ring}
+    (given : Ringed coordinates count table n a b closed ring)
     (pieces : Pieces) (keeps : Keeps (siteIn coordinates count table n a b) pieces) where
   abbrev its : Site
   its = siteIn coordinates count table n a b
@@ -106,11 +109,11 @@ module _ (coordinates : List ℕ) (count : ℕ) (table : List ℕ) (n a b : ℕ)
     pub expand-room : rowSize * (kept + 2 * (pieces .m - 1 - 1)) ≤ length front
     expand-room = omega (arith, front-size, kept-own, keeps .length, given .ready .long)
 
-    module _ (region : ℕ) (region-is : region ≡ regionOf (those (holdsEdge a b) (rowsIn table n))) where
+    module _ (region : ℕ) (region-is : region ≡ regionOf (those (holdsEdge a b) (rowsIn table n))) (unshut : shut its ≡ false) where
       follows : Follows its (pieces .apexes) (record { a = a; b = b; v = pieces .ring }) region 1 (m its)
       unfolding siteOf
       follows =
-          let own = kept-follows keeps in
+          let own = kept-follows keeps unshut in
           record {
             a = sym least;
             b = sym most;
@@ -135,10 +138,11 @@ module _ (coordinates : List ℕ) (count : ℕ) (table : List ℕ) (n a b : ℕ)
           ∙ table-append (its .kept) rows in
           rw (number, bytes)
 
-  -- what is read for the whole ring is its best worst
+  -- what is read for the whole ring or chain is its best worst; where it is no mark, no kept row shuts it
   pub carries : (best : Best) (at : ℕ) → at ≡ cellAt 1 (pieces .m)
       → bestOf best ≡ readBest (getD (pieces .kinds) at 0) (getD (pieces .nums) at 0) (getD (pieces .dens) at 0)
-      → (rows : Rows) → rows ≡ rowsWith (tableAfter its (chosen its)) → Carries its (record { best = best; rows = rows })
+      → (rows : Rows) → (shut its ≡ false → rows ≡ rowsWith (tableAfter its (chosen its)))
+      → Carries its (record { best = best; rows = rows })
   carries best at e r rows w =
       let long : 1 + 2 ≤ m its = omega (arith, given .ready .long) in
       let place : at ≡ cellAt 1 (m its) = e ∙ ap (cellAt 1) (keeps .length) in
@@ -146,5 +150,5 @@ module _ (coordinates : List ℕ) (count : ℕ) (table : List ℕ) (n a b : ℕ)
       record {
         best = rw own (keeps .best 1 (m its) (omega arith) long (omega arith));
         fraction = λ q h. keeps .fractions 1 (m its) (omega arith) long (omega arith) q (sym own ∙ h);
-        rows = w;
+        rows = λ q h. w (sym (whole-is its) ∙ kept-best keeps 1 (m its) (omega arith) long (omega arith) (sym own ∙ h) .0);
       }

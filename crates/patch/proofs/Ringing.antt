@@ -1,6 +1,6 @@
--- Answers 1 to 13 of an edge, as the calls use them: a refusal is theirs too, and with answer 0 the edge has its ring.
+-- Answers 1 to 13 of an edge, as the calls use them: a refusal is theirs too, and with answer 0 the edge has its ring or chain.
 use Prim.Native.Nat.{ℕ, suc, _≤_, _<_, min, max}
-use mathlib.Core.Bool.{Bool, true, false, cond, not}
+use mathlib.Core.Bool.{Bool, true, false, cond, not, _&&_}
 use mathlib.Core.List.{List, [], _∷_, _++_}
 use mathlib.Core.Path.{_≡_, refl, sym, ap, _∙_, subst}
 use native.Mathlib.Omega.{arith}
@@ -15,7 +15,7 @@ use Rattle.block.specs.Answers.{Tests, firstRefusal}
 use Rattle.block.proofs.Refusals.{passed, goes-on, refuses}
 use Rattle.block.proofs.Written.{points-counted}
 use Rattle.ring.specs.declared.Found.{Found}
-use Rattle.ring.specs.Ring.{Site, siteOf, m, minRing, maxRing, edgeTests, lengthWrong, ringWith}
+use Rattle.ring.specs.Ring.{Site, siteOf, m, minRing, maxRing, ringsAlone, orChains, edgeTests, lengthWrong, ringWith}
 use Rattle.ring.specs.Sound.{SoundRing}
 use Rattle.ring.proofs.Order.{site-ordered}
 use Rattle.ring.proofs.Sites.{wrong-not-three}
@@ -26,7 +26,7 @@ use Rattle.patch.specs.Steps.{edgeAnswer, edgeFound, Ringed, planAnswer}
 use Rattle.patch.proofs.Answering.{front-numbered, reached, remove-left, flip32-left}
 use Rattle.patch.proofs.Handed.{Number, number-handed, handed-done}
 use Rattle.patch.proofs.Opens.{few-points, few-rows, opens-measured}
-use Rattle.patch.proofs.Sites.{ends-fit, sound-site, site-length, ring-point}
+use Rattle.patch.proofs.Sites.{ends-fit, sound-site, ring-point}
 
 -- a refusal stands, if the last test is only stricter and others follow it
 refusal-stands : (xs : Tests) (n k : ℕ) (b c : Bool) (rest : Tests) → (b ≡ true → c ≡ true) → firstRefusal (xs ++ (n, b) ∷ []) ≡ suc k
@@ -42,34 +42,38 @@ refusal-stands ((i, t) ∷ xs) n k b c rest f h = go t h (refusal-stands xs n k 
     go true h f = h
     go false h f = f h
 
+-- ---- a refusal
+
 module _ (block out : List ℕ) (e f : ℕ) where
+  pub remove-refused : (k : ℕ) → edgeAnswer orChains block out e f ≡ suc k → removeAnswer block out e f ≡ suc k
+  unfolding edgeAnswer removeAnswer removalTests
+  remove-refused k h =
+      let site = siteOf (fieldsOf block) e f in
+      refusal-stands (blockTests block out ++ edgeTests orChains site e f) 13 k (lengthWrong site) (lengthWrong site) _ (λ q. q) h
+
+  pub flip-refused : (k : ℕ) → edgeAnswer ringsAlone block out e f ≡ suc k → flip32Answer block out e f ≡ suc k
+  unfolding edgeAnswer flip32Answer flip32Tests
+  flip-refused k h =
+      let site = siteOf (fieldsOf block) e f in
+      refusal-stands (blockTests block out ++ edgeTests ringsAlone site e f) 13 k (lengthWrong site) (not (eqb (m site) minRing)) _
+      (λ q. ap not (wrong-not-three site q)) h
+
+-- ---- what is found
+
+module _ (chains : Bool) (block out : List ℕ) (e f : ℕ) where
   abbrev site : Site
   site = siteOf (fieldsOf block) e f
 
-  -- ---- a refusal
-
-  pub remove-refused : (k : ℕ) → edgeAnswer block out e f ≡ suc k → removeAnswer block out e f ≡ suc k
-  unfolding edgeAnswer removeAnswer removalTests
-  remove-refused k h = refusal-stands (blockTests block out ++ edgeTests site e f) 13 k (lengthWrong site) (lengthWrong site) _ (λ q. q) h
-
-  pub flip-refused : (k : ℕ) → edgeAnswer block out e f ≡ suc k → flip32Answer block out e f ≡ suc k
-  unfolding edgeAnswer flip32Answer flip32Tests
-  flip-refused k h =
-      refusal-stands (blockTests block out ++ edgeTests site e f) 13 k (lengthWrong site) (not (eqb (m site) minRing)) _
-      (λ q. ap not (wrong-not-three site q)) h
-
-  -- ---- what is found
-
   -- a refusal has the edge's number
-  pub found-refused : (found : Found) → found ≡ edgeFound block out e f → (n : ℕ) → found .answer ≡ Refused n
-      → Number (edgeAnswer block out e f) n
+  pub found-refused : (found : Found) → found ≡ edgeFound chains block out e f → (n : ℕ) → found .answer ≡ Refused n
+      → Number (edgeAnswer chains block out e f) n
   unfolding edgeFound
-  found-refused found i n h = number-handed (edgeAnswer block out e f) n (sym (ap (λ (found : Found). found .answer) i) ∙ h)
+  found-refused found i n h = number-handed (edgeAnswer chains block out e f) n (sym (ap (λ (found : Found). found .answer) i) ∙ h)
 
-  module _ (found : Found) (i : found ≡ edgeFound block out e f) (h : found .answer ≡ Done) where
-    edge-passes : edgeAnswer block out e f ≡ 0
+  module _ (found : Found) (i : found ≡ edgeFound chains block out e f) (h : found .answer ≡ Done) where
+    edge-passes : edgeAnswer chains block out e f ≡ 0
     unfolding edgeFound
-    edge-passes = handed-done (edgeAnswer block out e f) (found .answer) (ap (λ (found : Found). found .answer) i) h
+    edge-passes = handed-done (edgeAnswer chains block out e f) (found .answer) (ap (λ (found : Found). found .answer) i) h
 
     pub own-ring : found .ring ≡ ringWith (site .ring)
     unfolding edgeFound
@@ -77,12 +81,21 @@ module _ (block out : List ℕ) (e f : ℕ) where
         ap (λ (found : Found). found .ring) i
         ∙ ap (λ n. ringWith (cond (eqb n 0) (site .ring) [])) edge-passes
 
+    pub own-closed : found .closed ≡ site .closed
+    unfolding edgeFound
+    own-closed = ap (λ (found : Found). found .closed) i ∙ ap (λ n. eqb n 0 && site .closed) edge-passes
+
     edge-reached : Sound block e f × (length out ≡ blockBytes) × (firstRefusal ((13, lengthWrong site) ∷ []) ≡ 0)
+        × (chains ≡ ringsAlone → site .closed ≡ true)
     unfolding edgeAnswer
-    edge-reached = reached block out e f ((13, lengthWrong site) ∷ []) 0 (front-numbered block out site e f) edge-passes
+    edge-reached = reached chains block out e f ((13, lengthWrong site) ∷ []) 0 (front-numbered chains block out site e f) edge-passes
 
     pub edge-sound : Sound block e f
     edge-sound = edge-reached .0
+
+    -- where rings alone are taken it is closed
+    pub alone-closed : chains ≡ ringsAlone → site .closed ≡ true
+    alone-closed alone = edge-reached .3 alone
 
     pub out-size : length out ≡ blockBytes
     out-size = edge-reached .1
@@ -107,22 +120,26 @@ module _ (block out : List ℕ) (e f : ℕ) where
     unfolding removalTests planAnswer
     remove-rest = remove-left block out e f edge-sound out-size ∙ goes-on 13 (lengthWrong site) _ length-right
 
-    -- the rest of a 3-2 flip
-    pub flip-13 : (m site ≡ minRing → ⊥) → flip32Answer block out e f ≡ 13
-    unfolding flip32Tests
-    flip-13 d = flip32-left block out e f edge-sound out-size ∙ refuses 13 _ _ (ap not (ne-eqb (m site) minRing d))
+    -- the rest of a 3-2 flip, which takes rings alone
+    module _ (alone : chains ≡ ringsAlone) where
+      flip-rest : flip32Answer block out e f ≡ firstRefusal (flip32Tests site)
+      flip-rest = flip32-left block out e f edge-sound (alone-closed alone) out-size
 
-    module _ (three : m site ≡ minRing) where
-      flip-three : flip32Answer block out e f ≡ firstRefusal ((15, noWay site) ∷ [])
+      pub flip-13 : (m site ≡ minRing → ⊥) → flip32Answer block out e f ≡ 13
       unfolding flip32Tests
-      flip-three = flip32-left block out e f edge-sound out-size ∙ goes-on 13 _ _ (ap not (eq-eqb (m site) minRing three))
+      flip-13 d = flip-rest ∙ refuses 13 _ _ (ap not (ne-eqb (m site) minRing d))
 
-      pub flip-15 : noWay site ≡ true → flip32Answer block out e f ≡ 15
-      flip-15 w = flip-three ∙ refuses 15 (noWay site) [] w
+      module _ (three : m site ≡ minRing) where
+        flip-three : flip32Answer block out e f ≡ firstRefusal ((15, noWay site) ∷ [])
+        unfolding flip32Tests
+        flip-three = flip-rest ∙ goes-on 13 _ _ (ap not (eq-eqb (m site) minRing three))
 
-      pub flip-0 : noWay site ≡ false → flip32Answer block out e f ≡ 0
-      unfolding firstRefusal
-      flip-0 w = flip-three ∙ goes-on 15 (noWay site) [] w
+        pub flip-15 : noWay site ≡ true → flip32Answer block out e f ≡ 15
+        flip-15 w = flip-three ∙ refuses 15 (noWay site) [] w
+
+        pub flip-0 : noWay site ≡ false → flip32Answer block out e f ≡ 0
+        unfolding firstRefusal
+        flip-0 w = flip-three ∙ goes-on 15 (noWay site) [] w
 
     -- ---- the ends in order
 
@@ -131,7 +148,7 @@ module _ (block out : List ℕ) (e f : ℕ) where
       unfolding fieldsOf
       own-site = rw (p, q) (site-ordered (fieldsOf block) e f)
 
-      ready : Ready (coordinatesOf block) (pointCount block) (tableOf block) (rowCount block) a b (found .ring)
+      ready : Ready (coordinatesOf block) (pointCount block) (tableOf block) (rowCount block) a b (found .closed) (found .ring)
       ready =
           let measured = opens-measured block (edge-sound .opens) in
           let (low, high, apart) = ends-fit block e f edge-sound in
@@ -142,6 +159,7 @@ module _ (block out : List ℕ) (e f : ℕ) where
             few-rows = few-rows block (edge-sound .opens);
             ordered = omega arith;
             below = omega (arith, points-counted block);
+            is-closed = own-closed ∙ ap (λ (s : Site). s .closed) (sym own-site);
             found = own-ring ∙ ap (λ (s : Site). ringWith (s .ring)) (sym own-site);
             long = subst (λ (s : Site). minRing ≤ m s) (sym own-site) (lengths .0);
             short = subst (λ (s : Site). m s ≤ maxRing) (sym own-site) (lengths .1);
@@ -150,10 +168,9 @@ module _ (block out : List ℕ) (e f : ℕ) where
                 (ring-point block e f edge-sound (at-in (site .ring) i 0 k) .below));
           }
 
-      pub ringed : Ringed (coordinatesOf block) (pointCount block) (tableOf block) (rowCount block) a b (found .ring)
+      pub ringed : Ringed (coordinatesOf block) (pointCount block) (tableOf block) (rowCount block) a b (found .closed) (found .ring)
       ringed = record {
         ready = ready;
         measured = opens-measured block (edge-sound .opens);
         sound = subst SoundRing (sym own-site) (sound-site block e f edge-sound);
-        size = subst (λ (s : Site). m s ≡ length (s .removed)) (sym own-site) (site-length block e f edge-sound);
       }

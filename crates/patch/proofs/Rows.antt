@@ -1,5 +1,5 @@
--- The order of the rows and their even arrangement change no answer of a removal or a 3-2 flip: the ring is the same, the kept rows are
--- the same tetrahedra, so the same ways are admissible with the same worst, and the worst row round the edge is one fraction.
+-- The order of the rows and their even arrangement change no answer of a removal or a 3-2 flip: the ring or chain is the same, the kept
+-- rows are the same tetrahedra, so the same ways are admissible with the same worst, and the worst row round the edge is one fraction.
 use Prim.Native.Nat.{ℕ, _-_, _≤_, min, max}
 use mathlib.Core.Bool.{Bool, true, false, cond, not, _&&_, _||_}
 use mathlib.Core.List.{List, [], _∷_, _++_, append-assoc, map, Memᴰ·map, Memᴰ·of-map}
@@ -22,24 +22,25 @@ use Rattle.mesh.proofs.Measured.{even-quality}
 use Rattle.block.specs.Layout.{fieldsOf}
 use Rattle.block.specs.Answers.{Tests, firstRefusal, notBlock}
 use Rattle.block.proofs.Refusals.{passed, refuses}
-use Rattle.ring.specs.Ring.{Site, siteOf, m, minRing, maxRing, numbersWrong, lengthWrong, edgeTests}
+use Rattle.ring.specs.Ring.{Site, siteOf, m, flat, minRing, maxRing, numbersWrong, ringsAlone, orChains, lengthWrong, notFlat}
+use Rattle.ring.specs.Ring.{edgeTests}
 use Rattle.ring.proofs.Order as Order
-use Rattle.ring.proofs.Order.{row-across, same-tests}
+use Rattle.ring.proofs.Order.{row-across, same-closed, same-tests}
 use Rattle.ring.specs.Found.{ringTests}
 use Rattle.pieces.specs.Triangulation.{Tri, span, ways, newRows, rowsAfter}
-use Rattle.pieces.specs.Admissible.{admissible, pieceAdmissible}
+use Rattle.pieces.specs.Admissible.{admissible, pieceAdmissible, shut}
 use Rattle.pieces.specs.Best.{worstOfWay, ringWays, chosen}
 use Rattle.pieces.proofs.Admissible.{ring-admissible}
 use Rattle.pieces.proofs.Ways.{ways-span}
 use Rattle.pieces.proofs.Worsts.{rows-fractions}
 use Rattle.pieces.proofs.Rings.{way-listed, listed-way}
 use Rattle.pieces.proofs.Across.{those-across, length-across}
-use Rattle.pieces.proofs.Kindred.{kin, piece-same, worst-same, rows-same}
+use Rattle.pieces.proofs.Kindred.{kin, piece-same, shut-same, worst-same, rows-same}
 use Rattle.patch.specs.Removing.{blockTests, worstNow, noRoom, noWay, noneBetter, patchAfter, totalDiffers, removalTests}
 use Rattle.patch.specs.Removing.{removeAnswer, Sound}
 use Rattle.patch.specs.Flipping.{flip32Tests, flip32Answer}
 use Rattle.patch.specs.Demands.{SameMesh, AnyRowOrder}
-use Rattle.patch.proofs.Answering.{same-behind, block-opened}
+use Rattle.patch.proofs.Answering.{same-behind, block-opened, taken}
 use Rattle.patch.proofs.Sites.{opens-rule, sound-site}
 use Rattle.patch.proofs.Third.{length-fits, some-way, site-chosen, total-stays}
 use Rattle.patch.proofs.Standing.{worst-now}
@@ -76,9 +77,19 @@ module _ (site other : Site) (three : 3 ≤ m site) (like : Like site other) whe
 edge-even : (a b : ℕ) (t u : Row) → T (rearranged t u) → holdsEdge a b t ≡ holdsEdge a b u
 edge-even a b t u even = rw (even-holds t u even a, even-holds t u even b)
 
-with-fields : (s : Site) {points : List Point} {ring : List ℕ} → s .points ≡ points → s .ring ≡ ring
-    → s ≡ record { points = points; a = s .a; b = s .b; removed = s .removed; kept = s .kept; links = s .links; ring = ring }
-with-fields s p r = rw (← p, ← r)
+with-fields : (s : Site) {points : List Point} {closed : Bool} {ring : List ℕ} → s .points ≡ points → s .closed ≡ closed → s .ring ≡ ring
+    → s
+    ≡ record {
+      points = points;
+      a = s .a;
+      b = s .b;
+      removed = s .removed;
+      kept = s .kept;
+      links = s .links;
+      closed = closed;
+      ring = ring;
+    }
+with-fields s p c r = rw (← p, ← c, ← r)
 
 module _ (block other : List ℕ) (e f : ℕ) (same : SameMesh block other) where
   abbrev site : Site
@@ -109,28 +120,37 @@ module _ (block other : List ℕ) (e f : ℕ) (same : SameMesh block other) wher
         Order.same-ring (length (fieldsOf block .points)) (fieldsOf block) (fieldsOf other) e f apart
         (opens-rule block (same .opens)) (same .tetrahedra)
 
+    closed-same : site .closed ≡ its .closed
+    closed-same =
+        same-closed (length (fieldsOf block .points)) (fieldsOf block) (fieldsOf other) e f apart
+        (opens-rule block (same .opens)) (same .tetrahedra)
+
     abbrev kindred : Site
     kindred = kin site (its .removed) (its .kept) (its .links) kept-same
 
     site-kin : its ≡ kindred
     unfolding siteOf
-    site-kin = with-fields its points-same (sym ring-same)
+    site-kin = with-fields its points-same (sym closed-same) (sym ring-same)
 
     numbers-of : map numbers (newRows site 1 (chosen site)) ≡ map numbers (newRows its 1 (chosen its))
     numbers-of = rows-same site (its .removed) (its .kept) (its .links) kept-same
         ∙ ap (λ s. map numbers (newRows s 1 (chosen s))) (sym site-kin)
 
     -- answers 9 to 12
-    edge-same : edgeTests site e f ≡ edgeTests its e f
+    edge-same : (chains : Bool) → edgeTests chains site e f ≡ edgeTests chains its e f
     unfolding edgeTests ringTests
-    edge-same =
+    edge-same chains =
         ap (λ (tests : Tests). (9, numbersWrong (length (site .points)) (e ∷ f ∷ [])) ∷ take 3 tests)
         (same-tests (length (fieldsOf block .points)) (fieldsOf block) (fieldsOf other) e f apart
-        (opens-rule block (same .opens)) (same .tetrahedra))
-        ∙ ap (λ (points : List Point). (9, numbersWrong (length points) (e ∷ f ∷ [])) ∷ take 3 (ringTests its)) (sym points-same)
+        (opens-rule block (same .opens)) (same .tetrahedra) chains)
+        ∙ ap (λ (points : List Point). (9, numbersWrong (length points) (e ∷ f ∷ [])) ∷ take 3 (ringTests chains its)) (sym points-same)
 
     length-same : lengthWrong site ≡ lengthWrong its
     length-same = ap (λ (ring : List ℕ). ltb (length ring) minRing || ltb maxRing (length ring)) ring-same
+
+    flat-same : notFlat site ≡ notFlat its
+    unfolding flat
+    flat-same = ap (λ s. notFlat s) (sym site-kin)
 
     room-same : rowsAfter site ≡ rowsAfter its
     room-same = omega (arith, ap length ring-same, length-across (site .kept) (its .kept) kept-same)
@@ -160,8 +180,9 @@ module _ (block other : List ℕ) (e f : ℕ) (same : SameMesh block other) wher
         size = ap length ring-same;
         keeps = λ t spans.
             ring-admissible site (sound-site block e f sound) t spans three
-            ∙ piece-same site (its .removed) (its .kept) (its .links) kept-same 1 t
-            ∙ ap (λ s. pieceAdmissible s 1 t) (sym site-kin)
+            ∙ ap (λ b. not b && pieceAdmissible site 1 t) (shut-same site (its .removed) (its .kept) (its .links) kept-same)
+            ∙ ap (λ b. not (shut kindred) && b) (piece-same site (its .removed) (its .kept) (its .links) kept-same 1 t)
+            ∙ ap (λ s. not (shut s) && pieceAdmissible s 1 t) (sym site-kin)
             ∙ sym (ring-admissible its (sound-site other e f its-sound) t (spans ∙ ap (λ (ring : List ℕ). length ring - 1) ring-same)
             (omega (arith, ap length ring-same)));
         worst = λ t. worst-same site (its .removed) (its .kept) (its .links) kept-same 1 t ∙ ap (λ s. worstOfWay s 1 t) (sym site-kin);
@@ -199,23 +220,31 @@ module _ (block other : List ℕ) (e f : ℕ) (same : SameMesh block other) (apa
       same-test (noneBetter left) (noneBetter right) (none-to left right three (alike three))
       (none-to right left three' (like other block e f (other-way same) apart its-sound sound three'))
 
-  -- 13 to 16
+  -- 13 to 16 and 19
   abbrev before17 : Site → Tests
-  before17 site = (13, lengthWrong site) ∷ (14, noRoom site) ∷ (15, noWay site) ∷ (16, noneBetter site) ∷ []
+  before17 site = (13, lengthWrong site) ∷ (19, notFlat site) ∷ (14, noRoom site) ∷ (15, noWay site) ∷ (16, noneBetter site) ∷ []
 
   before-same : 3 ≤ m left → before17 left ≡ before17 right
-  before-same three = rw (length-same block other e f same apart, room-same block other e f same apart, way-same three, none-same three)
+  before-same three =
+      rw (
+        length-same block other e f same apart,
+        flat-same block other e f same apart,
+        room-same block other e f same apart,
+        way-same three,
+        none-same three,
+      )
 
   -- 17 is given for neither
-  last-same : 3 ≤ m left → noWay left ≡ false
+  last-same : 3 ≤ m left → notFlat left ≡ false → noWay left ≡ false
       → totalDiffers (fieldsOf block) (patchAfter left) ≡ totalDiffers (fieldsOf other) (patchAfter right)
   unfolding patchAfter
-  last-same three way =
+  last-same three flat way =
       let three' : 3 ≤ m right = omega (arith, alike three .size) in
       let (t, w) = some-way block e f sound three way in
       let (u, x) = some-way other e f its-sound three' (sym (way-same three) ∙ way) in
-      total-stays block e f sound (chosen left) (site-chosen block e f sound three t w .way .spans)
-      ∙ sym (total-stays other e f its-sound (chosen right) (site-chosen other e f its-sound three' u x .way .spans))
+      total-stays block e f sound flat (chosen left) (site-chosen block e f sound three t w .way .spans)
+      ∙ sym (total-stays other e f its-sound (sym (flat-same block other e f same apart) ∙ flat) (chosen right)
+      (site-chosen other e f its-sound three' u x .way .spans))
 
   removal-same : firstRefusal (removalTests (fieldsOf block) left) ≡ firstRefusal (removalTests (fieldsOf other) right)
   unfolding removalTests
@@ -230,10 +259,11 @@ module _ (block other : List ℕ) (e f : ℕ) (same : SameMesh block other) (apa
           same-behind (before17 left)
           ((17, totalDiffers (fieldsOf block) (patchAfter left)) ∷ []) ((17, totalDiffers (fieldsOf other) (patchAfter right)) ∷ [])
           (λ passes.
-          let (a, passes) = passed 12 (lengthWrong left) _ passes in
-          let (b, passes) = passed 13 (noRoom left) _ passes in
-          let (c, passes) = passed 14 (noWay left) _ passes in
-          ap (λ differs. firstRefusal ((17, differs) ∷ [])) (last-same three c))
+          let (a13, passes) = passed 12 (lengthWrong left) _ passes in
+          let (a19, passes) = passed 18 (notFlat left) _ passes in
+          let (a14, passes) = passed 13 (noRoom left) _ passes in
+          let (a15, passes) = passed 14 (noWay left) _ passes in
+          ap (λ differs. firstRefusal ((17, differs) ∷ [])) (last-same three a19 a15))
           ∙ ap (λ (tests : Tests). firstRefusal (tests ++ ((17, totalDiffers (fieldsOf other) (patchAfter right)) ∷ [])))
           (before-same three)
 
@@ -251,9 +281,10 @@ module _ (block other : List ℕ) (e f : ℕ) (same : SameMesh block other) (apa
           ∙ sym (refuses 13 (not (eqb (m right) minRing)) _ (ap not (ap (λ n. eqb n minRing) (sym size) ∙ h)))
 
 -- 9: an end equal to the other
-nine : (block : List ℕ) {e f : ℕ} (rest : Tests) → e ≡ f → firstRefusal (edgeTests (siteOf (fieldsOf block) e f) e f ++ rest) ≡ 9
+nine : (chains : Bool) (block : List ℕ) {e f : ℕ} (rest : Tests) → e ≡ f
+    → firstRefusal (edgeTests chains (siteOf (fieldsOf block) e f) e f ++ rest) ≡ 9
 unfolding edgeTests numbersWrong every different any
-nine block {e} {f} rest h = refuses 9 _ _ (rw (eq-eqb e f h) (wrong (ltb e _) (ltb f _)))
+nine chains block {e} {f} rest h = refuses 9 _ _ (rw (eq-eqb e f h) (wrong (ltb e _) (ltb f _)))
   where
     wrong : (a b : Bool) → not ((a && (b && true)) && false) ≡ true
     wrong true true = refl
@@ -261,12 +292,12 @@ nine block {e} {f} rest h = refuses 9 _ _ (rw (eq-eqb e f h) (wrong (ltb e _) (l
     wrong false b = refl
 
 -- the tests of an edge, then others that are the same where the edge is sound
-edge-then : (block other out : List ℕ) (e f : ℕ) → SameMesh block other → (rest its-rest : Tests)
+edge-then : (chains : Bool) (block other out : List ℕ) (e f : ℕ) → SameMesh block other → (rest its-rest : Tests)
     → ((e ≡ f → ⊥) → Sound block e f → Sound other e f → firstRefusal rest ≡ firstRefusal its-rest)
-    → firstRefusal (blockTests block out ++ edgeTests (siteOf (fieldsOf block) e f) e f ++ rest)
-    ≡ firstRefusal (blockTests other out ++ edgeTests (siteOf (fieldsOf other) e f) e f ++ its-rest)
+    → firstRefusal (blockTests block out ++ edgeTests chains (siteOf (fieldsOf block) e f) e f ++ rest)
+    ≡ firstRefusal (blockTests other out ++ edgeTests chains (siteOf (fieldsOf other) e f) e f ++ its-rest)
 unfolding firstRefusal
-edge-then block other out e f same rest its-rest behind =
+edge-then chains block other out e f same rest its-rest behind =
     ap firstRefusal (append-assoc (blockTests block out) (edges block) rest)
     ∙ block-opened block out (edges block ++ rest) (same .opens)
     ∙ ap (λ n. cond (notBlock out) 1 n) (go (eqb e f) refl)
@@ -274,23 +305,29 @@ edge-then block other out e f same rest its-rest behind =
     ∙ sym (ap firstRefusal (append-assoc (blockTests other out) (edges other) its-rest))
   where
     edges : List ℕ → Tests
-    edges block = edgeTests (siteOf (fieldsOf block) e f) e f
+    edges block = edgeTests chains (siteOf (fieldsOf block) e f) e f
 
     go : (b : Bool) → eqb e f ≡ b → firstRefusal (edges block ++ rest) ≡ firstRefusal (edges other ++ its-rest)
-    go true h = nine block rest (eqb-true e f h) ∙ sym (nine other its-rest (eqb-true e f h))
+    go true h = nine chains block rest (eqb-true e f h) ∙ sym (nine chains other its-rest (eqb-true e f h))
     go false h =
         let apart = eqb-false e f h in
-        let tests = edge-same block other e f same apart in
+        let tests = edge-same block other e f same apart chains in
         same-behind (edges block) rest its-rest
-        (λ closed.
-        behind apart (record { opens = same .opens; closed = closed }) (record { opens = same .other-opens; closed = rw (← tests) closed }))
+        (λ passes.
+        let one = taken chains (siteOf (fieldsOf block) e f) e f passes .0 in
+        behind apart (record { opens = same .opens; one = one })
+        (record { opens = same .other-opens; one = rw (← (edge-same block other e f same apart orChains)) one }))
         ∙ ap (λ tests. firstRefusal (tests ++ its-rest)) tests
 
 pub any-row-order : (block other out : List ℕ) (e f : ℕ) → SameMesh block other → AnyRowOrder block other out e f
 unfolding removeAnswer flip32Answer
 any-row-order block other out e f same = record {
-  remove-answer = edge-then block other out e f same _ _ (λ apart sound its-sound. removal-same block other e f same apart sound its-sound);
-  flip32-answer = edge-then block other out e f same _ _ (λ apart sound its-sound. flip-same block other e f same apart sound its-sound);
+  remove-answer =
+      edge-then orChains block other out e f same _ _
+      (λ apart sound its-sound. removal-same block other e f same apart sound its-sound);
+  flip32-answer =
+      edge-then ringsAlone block other out e f same _ _
+      (λ apart sound its-sound. flip-same block other e f same apart sound its-sound);
   ring = ring-same block other e f same;
   kept = kept-same block other e f same;
   new-rows = numbers-of block other e f same;

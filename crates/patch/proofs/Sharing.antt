@@ -22,7 +22,7 @@ use Rattle.mesh.proofs.Rule.{keeps-fits}
 use Rattle.mesh.proofs.Places.{arranged-from}
 use Rattle.ring.specs.Ring.{link, smallest}
 use Rattle.ring.specs.Found.{LinkedRow}
-use Rattle.ring.proofs.Rounding.{smallest-in, smallest-le}
+use Rattle.ring.proofs.Smallest.{smallest-in, smallest-le}
 use Rattle.pieces.specs.Triangulation.{regionOf}
 use Rattle.patch.specs.declared.flipping.Sharing.{Sharing}
 use Rattle.patch.specs.Flipping.{apexOver, Pair, pairOf, threeRows}

@@ -1,4 +1,4 @@
--- What a block that opens and an edge without answers 9 to 12 give: a sound ring, of as many points as rows go, and ends that fit.
+-- What a block that opens and an edge without answers 9 to 12 give: a sound ring, or a sound chain, and ends that fit.
 use Prim.Native.Nat.{ℕ, _<_}
 use mathlib.Core.Bool.{false}
 use mathlib.Core.List.{List, [], _∷_, List·Memᴰ}
@@ -11,9 +11,9 @@ use Rattle.mesh.specs.Mesh.{keepsMeshRule}
 use Rattle.block.specs.Layout.{fieldsOf}
 use Rattle.block.specs.Answers.{openAnswer}
 use Rattle.block.proofs.Right.{right-block}
-use Rattle.ring.specs.Ring.{Site, siteOf, m, numbersWrong}
+use Rattle.ring.specs.Ring.{Site, siteOf, numbersWrong}
 use Rattle.ring.specs.Sound.{SoundRing}
-use Rattle.ring.proofs.Sites.{OneCircle, PointFits, tests-passed, numbers-right, site-size, site-point}
+use Rattle.ring.proofs.Sites.{OneRound, PointFits, tests-passed, numbers-right, site-point}
 use Rattle.ring.proofs.Sounding.{sound-ring}
 use Rattle.patch.specs.Removing.{Sound}
 
@@ -31,14 +31,14 @@ module _ (block : List ℕ) (e f : ℕ) (sound : Sound block e f) where
   rule : T (keepsMeshRule pointCountOf (fieldsOf block .rows))
   rule = opens-rule block (sound .opens)
 
-  passes : (numbersWrong pointCountOf (e ∷ f ∷ []) ≡ false) × OneCircle theSite
+  passes : (numbersWrong pointCountOf (e ∷ f ∷ []) ≡ false) × OneRound theSite
   unfolding siteOf
-  passes = tests-passed theSite e f (sound .closed)
+  passes = tests-passed theSite e f (sound .one)
 
   pub ends-fit : (e < pointCountOf) × (f < pointCountOf) × (e ≡ f → ⊥)
   ends-fit = numbers-right pointCountOf e f (passes .0)
 
-  -- the ring is sound
+  -- the ring, or the chain, is sound
   pub sound-site : SoundRing theSite
   sound-site = sound-ring (fieldsOf block) e f (ends-fit .2) rule (passes .1)
 
@@ -47,15 +47,11 @@ module _ (block : List ℕ) (e f : ℕ) (sound : Sound block e f) where
   unfolding siteOf
   site-ends = let (a, b, c) = ends-fit in (omega arith, omega arith)
 
-  -- m is the number of rows that go
-  pub site-length : m theSite ≡ length (theSite .removed)
-  site-length = site-size pointCountOf (fieldsOf block) e f (ends-fit .2) rule (passes .1)
-
   -- some row goes
   pub some-removed : 0 < length (theSite .removed)
   some-removed = let d = eqb-false (length (theSite .removed)) 0 (passes .1 .held) in omega arith
 
-  -- a point of the ring is below the count and neither a nor b
+  -- a point of the ring, or of the chain, is below the count and neither a nor b
   pub ring-point : {v : ℕ} → List·Memᴰ v (theSite .ring) → PointFits pointCountOf (theSite .a) (theSite .b) v
   unfolding siteOf
   ring-point k = site-point pointCountOf (fieldsOf block) e f (ends-fit .2) rule (passes .1) k

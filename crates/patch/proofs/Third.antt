@@ -20,7 +20,7 @@ use Rattle.mesh.specs.Mesh.{rowQuality, totalD}
 use Rattle.block.specs.Layout.{maxRows, fieldsOf}
 use Rattle.block.specs.Answers.{Tests, firstRefusal, bodyTests}
 use Rattle.block.proofs.Refusals.{passed, goes-on}
-use Rattle.ring.specs.Ring.{Site, siteOf, m, minRing, maxRing, lengthWrong, edgeTests}
+use Rattle.ring.specs.Ring.{Site, siteOf, m, minRing, maxRing, orChains, lengthWrong, notFlat, edgeTests}
 use Rattle.pieces.specs.Triangulation.{Tri, span, ways, tableAfter, rowsAfter}
 use Rattle.pieces.specs.Admissible.{admissible}
 use Rattle.pieces.specs.Best.{worstOfWay, ringWays, chosen}
@@ -31,7 +31,7 @@ use Rattle.patch.specs.Removing.{blockTests, worstNow, noRoom, noWay, no
 use Rattle.patch.specs.Removing.{removeAnswer, removeBytes, Sound}
 use Rattle.patch.specs.Demands.{Way, Premises, NoneBetter, Demand3}
 use Rattle.patch.proofs.Answering.{unlike, both-passed, reached, remove-left}
-use Rattle.patch.proofs.Sites.{sound-site, site-length}
+use Rattle.patch.proofs.Sites.{sound-site}
 use Rattle.patch.proofs.Written.{rows-read}
 
 -- ---- law 5: 17 never occurs
@@ -44,16 +44,15 @@ module _ (block : List ℕ) (e f : ℕ) (sound : Sound block e f) where
   site = siteOf (fieldsOf block) e f
 
   -- whatever way is carried out, the total D stays
-  pub site-total : (t : Tri) → span t ≡ m site - 1
+  pub site-total : notFlat site ≡ false → (t : Tri) → span t ≡ m site - 1
       → totalD (fieldsOf block .points) (tableAfter site t) ≡ totalD (fieldsOf block .points) (fieldsOf block .rows)
   unfolding siteOf
-  site-total t spans =
-      table-total site (sound-site block e f sound) (omega (arith, site-length block e f sound)) t spans (fieldsOf block .rows) refl refl
+  site-total flat t spans = table-total site (sound-site block e f sound) flat t spans (fieldsOf block .rows) refl refl
 
-  pub total-stays : (t : Tri) → span t ≡ m site - 1
+  pub total-stays : notFlat site ≡ false → (t : Tri) → span t ≡ m site - 1
       → totalDiffers (fieldsOf block) (record { points = site .points; rows = tableAfter site t }) ≡ false
   unfolding totalDiffers siteOf
-  total-stays t spans = rw (site-total t spans, same-self)
+  total-stays flat t spans = rw (site-total flat t spans, same-self)
 
   module _ (three : 3 ≤ m site) where
     -- where some way keeps the mesh rule, the chosen one does, and none has a better worst
@@ -81,7 +80,7 @@ length-fits site h =
     let (low, high) = neither-is (ltb (m site) minRing) (ltb maxRing (m site)) h in
     (ltb-false (m site) minRing low, ltb-false maxRing (m site) high)
 
-front-not-17 : (block out : List ℕ) (site : Site) (e f : ℕ) → T (unlike 17 (blockTests block out ++ edgeTests site e f))
+front-not-17 : (block out : List ℕ) (site : Site) (e f : ℕ) → T (unlike 17 (blockTests block out ++ edgeTests orChains site e f))
 unfolding blockTests bodyTests edgeTests every
 front-not-17 block out site e f = tt
 
@@ -90,21 +89,24 @@ unfolding firstRefusal
 no-17 true h e = subst T e tt
 no-17 false h e = omega arith
 
--- the total of a ring cancels, so the guard is never met
+-- the total of a ring or of a flat chain cancels, so the guard is never met
 pub never-17 : (block out : List ℕ) (e f : ℕ) → removeAnswer block out e f ≡ 17 → ⊥
 unfolding removeAnswer removalTests patchAfter every
 never-17 block out e f h =
     let site = siteOf (fieldsOf block) e f in
-    let (sound, size, rest) = reached block out e f (removalTests (fieldsOf block) site) 17 (front-not-17 block out site e f) h in
-    let before : Tests = (13, lengthWrong site) ∷ (14, noRoom site) ∷ (15, noWay site) ∷ (16, noneBetter site) ∷ [] in
+    let (sound, size, rest, closed) =
+    reached orChains block out e f (removalTests (fieldsOf block) site) 17 (front-not-17 block out site e f) h in
+    let before : Tests =
+    (13, lengthWrong site) ∷ (19, notFlat site) ∷ (14, noRoom site) ∷ (15, noWay site) ∷ (16, noneBetter site) ∷ [] in
     let (front, last) = both-passed 17 before ((17, totalDiffers (fieldsOf block) (patchAfter site)) ∷ []) tt rest in
     let (a13, front) = passed 12 (lengthWrong site) _ front in
+    let (a19, front) = passed 18 (notFlat site) _ front in
     let (a14, front) = passed 13 (noRoom site) _ front in
     let (a15, front) = passed 14 (noWay site) _ front in
     let three = length-fits site a13 .0 in
     let (t, w) = some-way block e f sound three a15 in
     let best = site-chosen block e f sound three t w in
-    no-17 (totalDiffers (fieldsOf block) (patchAfter site)) last (total-stays block e f sound (chosen site) (best .way .spans))
+    no-17 (totalDiffers (fieldsOf block) (patchAfter site)) last (total-stays block e f sound a19 (chosen site) (best .way .spans))
 
 -- ---- law 4: none better
 
@@ -155,6 +157,7 @@ module _ (block out : List ℕ) (e f : ℕ) (given : Premises block out e f) whe
       let (t, w) = given .some-way in
       remove-left block out e f (given .sound) (given .right-length)
       ∙ goes-on 13 (lengthWrong its) _ (length-passes its (given .from-three) (given .to-ten))
+      ∙ goes-on 19 (notFlat its) _ (given .closed-or-flat)
       ∙ goes-on 14 (noRoom its) _ (le-ltb maxRows (rowsAfter its) (given .room))
       ∙ goes-on 15 (noWay its) _ (way-there block e f (given .sound) three-up t w)
       ∙ two-left (noneBetter its) (totalDiffers (fieldsOf block) (patchAfter its))
@@ -166,7 +169,9 @@ module _ (block out : List ℕ) (e f : ℕ) (given : Premises block out e f) whe
   last-answer : removeAnswer block out e f ≡ given16 0 (noneBetter its)
   unfolding patchAfter
   last-answer =
-      last-answers ∙ ap (λ b. given16 (cond b 17 0) (noneBetter its)) (total-stays block e f (given .sound) (chosen its) (best .way .spans))
+      last-answers
+      ∙ ap (λ b. given16 (cond b 17 0) (noneBetter its))
+      (total-stays block e f (given .sound) (given .closed-or-flat) (chosen its) (best .way .spans))
 
   pub answer-16 : (removeAnswer block out e f ≡ 16) ↔ NoneBetter its
   answer-16 = (

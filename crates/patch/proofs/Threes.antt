@@ -1,6 +1,6 @@
 -- Three rows (a,b,u,v), (a,b,v,w), (a,b,w,u) and no other that holds a and b: the ring is u, v, w, and no answer from 9 to 13 is given.
 use Prim.Native.Nat.{ℕ, _<_, _≤_, min, max}
-use mathlib.Core.Bool.{Bool, true, false, not}
+use mathlib.Core.Bool.{Bool, true, false, cond, not}
 use mathlib.Core.List.{List, [], _∷_, _++_, map, flatMap, List·Memᴰ, List·Memᴰ·head, List·Memᴰ·tail, List·Memᴰ·not-nil, Memᴰ·append-right}
 use mathlib.Core.List.{append-nil}
 use mathlib.Core.Option.{some}
@@ -21,11 +21,12 @@ use Rattle.mesh.proofs.Places.{even-refl}
 use Rattle.mesh.proofs.Rule.{fit-proper, keeps-fits}
 use Rattle.block.specs.Layout.{Patch}
 use Rattle.block.specs.Answers.{firstRefusal}
-use Rattle.ring.specs.Ring.{Link, link, next, closes, starts, ringOf, Site, siteOf, numbersWrong, linkOpen, manyCircles, edgeTests}
+use Rattle.ring.specs.Ring.{Link, link, next, closes, allClose, starts, circleOf, chainOf, Site, siteOf}
+use Rattle.ring.specs.Ring.{numbersWrong, whole, linkOpen, manyCircles, edgeTests}
 use Rattle.ring.proofs.Linking.{link-is}
 use Rattle.ring.proofs.Walking.{Walks, last, more, next-is, walks-walk}
 use Rattle.ring.proofs.Closing.{closes-i}
-use Rattle.ring.proofs.Rounding.{smallest-is}
+use Rattle.ring.proofs.Smallest.{smallest-is}
 use Rattle.pieces.specs.Triangulation.{Tri, side, cut, span, triangles, twoRows, newRows, tableAfter}
 use Rattle.pieces.proofs.Ways.{span-over}
 use Rattle.patch.proofs.Orders.{ThreeApart, apart-three}
@@ -58,18 +59,22 @@ module _ (u v w : ℕ) (apart : ThreeApart u v w) where
   walk-w = more step-w (apart .xz) (more step-u (apart .yz) (last step-v))
 
   -- they all close
-  three-close : T (every (closes links) (starts links))
-  three-close =
-      every-cons (closes links) u (v ∷ w ∷ []) (closes-i links u walk-u)
-      (every-cons (closes links) v (w ∷ []) (closes-i links v walk-v)
-      (every-cons (closes links) w [] (closes-i links w walk-w) tt'))
+  three-close : allClose links ≡ true
+  unfolding allClose
+  three-close = yes-is (every (closes links) (starts links)) close
     where
       tt' : T (every (closes links) [])
       tt' = every-i (closes links) [] (λ x k. absurd (List·Memᴰ·not-nil k))
 
+      close : T (every (closes links) (starts links))
+      close =
+          every-cons (closes links) u (v ∷ w ∷ []) (closes-i links u walk-u)
+          (every-cons (closes links) v (w ∷ []) (closes-i links v walk-v)
+          (every-cons (closes links) w [] (closes-i links w walk-w) tt'))
+
   -- in the ring u, v, w
-  three-ring : u ≤ v → u ≤ w → ringOf links ≡ u ∷ v ∷ w ∷ []
-  unfolding ringOf
+  three-ring : u ≤ v → u ≤ w → circleOf links ≡ u ∷ v ∷ w ∷ []
+  unfolding circleOf
   three-ring uv uw =
       let least = smallest-is (starts links) u (List·Memᴰ·head refl)
       (λ k i. in-cases i (λ e. omega arith) λ i. in-cases i (λ e. omega arith)
@@ -163,9 +168,15 @@ module _ (points : List Point) (kept : List Row) (a b u v w region : ℕ) (order
       of : {row : Row} → List·Memᴰ row new → link (row .p) (row .q) row ≡ (row .r, row .s)
       of {row} k = link-is row row (new-proper k) (even-refl row)
 
+  pub three-closed : site .closed ≡ true
+  unfolding siteOf
+  three-closed = ap allClose three-links ∙ three-close u v w points-apart
+
   pub ring-three : site .ring ≡ u ∷ v ∷ w ∷ []
   unfolding siteOf
-  ring-three = ap ringOf three-links ∙ three-ring u v w points-apart uv uw
+  ring-three =
+      ap (λ ls. cond (allClose ls) (circleOf ls) (chainOf ls)) three-links
+      ∙ rw (three-close u v w points-apart) (three-ring u v w points-apart uv uw)
 
   -- ---- no answer from 9 to 12
 
@@ -175,14 +186,12 @@ module _ (points : List Point) (kept : List Row) (a b u v w region : ℕ) (order
       let one = new-proper (List·Memᴰ·head refl) in
       rw (lt-ltb a (length points) (one .below-p), lt-ltb b (length points) (one .below-q), ne-eqb a b (one .p-q))
 
-  links-close : linkOpen site ≡ false
+  links-close : (chains : Bool) → linkOpen chains site ≡ false
   unfolding linkOpen
-  links-close =
-      let ls = links u v w points-apart in
-      rw (three-links, yes-is (every (closes ls) (starts ls)) (three-close u v w points-apart))
+  links-close chains = rw three-closed
 
   one-circle : manyCircles site ≡ false
-  unfolding manyCircles
+  unfolding manyCircles whole
   one-circle =
       let ls = links u v w points-apart in
       let ring : List ℕ = u ∷ v ∷ w ∷ [] in
@@ -192,9 +201,9 @@ module _ (points : List Point) (kept : List Row) (a b u v w region : ℕ) (order
   unfolding siteOf
   same-points = refl
 
-  pub three-pass : firstRefusal (edgeTests site a b) ≡ 0
+  pub three-pass : (chains : Bool) → firstRefusal (edgeTests chains site a b) ≡ 0
   unfolding edgeTests firstRefusal
-  three-pass = rw (links-close, one-circle, same-points, ends-right, three-removed)
+  three-pass chains = rw (links-close chains, one-circle, same-points, ends-right, three-removed)
 
   -- ---- the only way
 

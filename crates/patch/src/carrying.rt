@@ -1,4 +1,4 @@
-// The best triangulation of a ring, carried out in a scratch table.
+// The best triangulation of a ring or a chain, carried out in a scratch table.
 ghost use Prim.Native.Nat.{_*_, _≤_};
 ghost use mathlib.Core.List.{[]};
 ghost use mathlib.Core.Path.{_≡_};
@@ -20,7 +20,7 @@ pub struct Rows {
     pub table: [u8; TABLE_BYTES],
 }
 
-// The best worst of the ring or the mark, and the rows with the chosen triangulation.
+// The best worst of the ring or chain, or the mark; and the rows with the chosen triangulation, where there is no mark.
 pub struct Carried {
     pub best: Best,
     pub rows: Rows,
@@ -50,7 +50,7 @@ fn region_of(table: &[u8], n: usize, a: u8, b: u8) -> u8
     0
 }
 
-// The best triangulation of the ring, carried out.
+// The best triangulation of the ring or chain, carried out.
 pub fn carry_out(
     coordinates: &[u8],
     count: usize,
@@ -58,13 +58,14 @@ pub fn carry_out(
     n: usize,
     a: u8,
     b: u8,
+    closed: bool,
     ring: Ring,
 ) -> Carried
-    requires { ⌜ Ringed (now coordinates) count (now table) n a b ring ⌝ }
+    requires { ⌜ Ringed (now coordinates) count (now table) n a b closed ring ⌝ }
     requires { ⌜ rowsAfter (siteIn (now coordinates) count (now table) n a b) ≤ maxRows ⌝ }
     ensures { λ r. ⌜ Carries (siteIn (now (coordinates .entry)) count (now (table .entry)) n a b) r ⌝ }
 {
-    let pieces = pieces::fill(coordinates, count, table, n, a, b, ring);
+    let pieces = pieces::fill(coordinates, count, table, n, a, b, closed, ring);
     let m = pieces.m;
     let at = pieces::cell_at(1, m);
     let best = pieces::best_at(&pieces.kinds, &pieces.nums, &pieces.dens, at);

@@ -1,4 +1,4 @@
-// An edge in a block: the block and the output block are right, the ends are put in order and the ring round them is found.
+// An edge in a block: the block and the output block are right, the ends are put in order and the ring or chain round them is found.
 ghost use Prim.Native.Nat.{_<_, min, max};
 ghost use mathlib.Core.Path.{_≡_};
 ghost use Rattle.block.specs.Answers.{firstRefusal, answerOf};
@@ -53,6 +53,7 @@ pub fn no_ring(answer: Answer) -> Found
 {
     Found {
         answer,
+        closed: false,
         ring: Ring {
             m: 0,
             v: [0; MAX_RING],
@@ -60,9 +61,9 @@ pub fn no_ring(answer: Answer) -> Found
     }
 }
 
-// Answers 1 to 13 and, with answer 0, the ring round the edge.
-pub fn edge_at(block: &[u8], out: &[u8], e: usize, f: usize) -> Found
-    ensures { λ r. ⌜ r ≡ edgeFound (now (block .entry)) (now (out .entry)) e f ⌝ }
+// Answers 1 to 13 and, with answer 0, the ring round the edge or, where chains are taken too, the chain.
+pub fn edge_at(block: &[u8], out: &[u8], e: usize, f: usize, chains: bool) -> Found
+    ensures { λ r. ⌜ r ≡ edgeFound chains (now (block .entry)) (now (out .entry)) e f ⌝ }
 {
     let opened = blocks_answer(block, out);
     let Answer::Done = opened else {
@@ -83,5 +84,6 @@ pub fn edge_at(block: &[u8], out: &[u8], e: usize, f: usize) -> Found
         block[2] as usize,
         smaller(e, f),
         larger(e, f),
+        chains,
     )
 }

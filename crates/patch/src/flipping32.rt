@@ -22,7 +22,7 @@ const THREE: u8 = 3;
 fn flip_plan(block: &[u8], out: &[u8], e: usize, f: usize) -> Plan
     ensures { λ r. ⌜ r ≡ flipOf (now (block .entry)) (now (out .entry)) e f ⌝ }
 {
-    let found = edge_at(block, out, e, f);
+    let found = edge_at(block, out, e, f, false);
     let answer = found.answer;
     let ring = found.ring;
     let Answer::Done = answer else {
@@ -40,6 +40,7 @@ fn flip_plan(block: &[u8], out: &[u8], e: usize, f: usize) -> Plan
         n,
         smaller(e, f),
         larger(e, f),
+        found.closed,
         ring,
     );
     let best = way.best;

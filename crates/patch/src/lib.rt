@@ -57,7 +57,7 @@ impl Removal {
     }
 }
 
-// What a removal gives: its answer and, if it is done, the ring; with a refusal the ring has no points.
+// What a removal gives: its answer and, if it is done, the ring or chain; with a refusal it has no points.
 pub struct Removed {
     pub removal: Removal,
     pub ring: Ring,

@@ -1,8 +1,10 @@
-// Answers 14 to 17 and the rows afterwards.
-ghost use mathlib.Core.Bool.{not};
+// Answers 19 and 14 to 17, and the rows afterwards.
+ghost use Prim.Native.Nat.{_+_, _<_};
+ghost use mathlib.Core.Bool.{cond, not};
 ghost use mathlib.Core.Path.{_≡_};
 ghost use Rattle.measure.specs.Measure.{sameZ};
 ghost use Rattle.measure.specs.Page.{shown, pageRow};
+ghost use Rattle.ring.specs.Ring.{notFlat};
 ghost use Rattle.pieces.specs.Filling.{siteIn};
 ghost use Rattle.tally.specs.Measured.{Measured, patchIn};
 ghost use Rattle.tally.specs.Summing.{worstOfPatch};
@@ -13,6 +15,7 @@ use crate::carrying::no_rows;
 use block::Answer;
 use block::MAX_ROWS;
 use measure::PageRow;
+use mesh::Row;
 use pieces::Best;
 use ring::Ring;
 
@@ -42,7 +45,47 @@ fn differ(x: i64, y: i64) -> bool
     y < x
 }
 
-// Answers 14 to 17 of a removal and, with answer 0, the rows afterwards.
+// The chain is not flat: it is open, and D(a,b,v1,vm) is not 0. `table` and `n` are for the contract alone: they say which chain.
+fn not_flat(
+    coordinates: &[u8],
+    count: usize,
+    table: &[u8],
+    n: usize,
+    a: u8,
+    b: u8,
+    closed: bool,
+    ring: Ring,
+) -> bool
+    requires { ⌜ Ringed (now coordinates) count (now table) n a b closed ring ⌝ }
+    ensures { λ r. ⌜ r ≡ notFlat (siteIn (now (coordinates .entry)) count (now (table .entry)) n a b) ⌝ }
+{
+    if closed {
+        return false;
+    }
+    let last = ring.m as usize - 1;
+    let across = Row {
+        p: a,
+        q: b,
+        r: ring.v[0],
+        s: ring.v[last],
+        region: 0,
+    };
+    let d = tally::row_volume(coordinates, count, across);
+    differ(d, 0)
+}
+
+// How many rows go: one for each point of a ring, and one fewer for a chain.
+fn going(closed: bool, m: usize) -> usize
+    requires { ⌜ 0 < m ⌝ }
+    ensures { λ r. ⌜ r + cond closed 0 1 ≡ m ⌝ }
+{
+    if closed {
+        return m;
+    }
+    m - 1
+}
+
+// Answers 19 and 14 to 17 of a removal and, with answer 0, the rows afterwards.
 pub fn decide(
     coordinates: &[u8],
     count: usize,
@@ -50,17 +93,21 @@ pub fn decide(
     n: usize,
     a: u8,
     b: u8,
+    closed: bool,
     ring: Ring,
 ) -> Plan
-    requires { ⌜ Ringed (now coordinates) count (now table) n a b ring ⌝ }
+    requires { ⌜ Ringed (now coordinates) count (now table) n a b closed ring ⌝ }
     ensures { λ r. ⌜ r ≡ planOf (patchIn (now (coordinates .entry)) count (now (table .entry)) n)
         (siteIn (now (coordinates .entry)) count (now (table .entry)) n a b) ⌝ }
 {
+    if not_flat(coordinates, count, table, n, a, b, closed, ring) {
+        return no_plan(Answer::Refused(19));
+    }
     let m = ring.m as usize;
-    if MAX_ROWS < n - m + 2 * (m - 2) {
+    if MAX_ROWS < n - going(closed, m) + 2 * (m - 2) {
         return no_plan(Answer::Refused(14));
     }
-    let way = carry_out(coordinates, count, table, n, a, b, ring);
+    let way = carry_out(coordinates, count, table, n, a, b, closed, ring);
     let best = way.best;
     let rows = way.rows;
     let Best::Worst(worst) = best else {

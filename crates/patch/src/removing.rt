@@ -44,7 +44,7 @@ fn refused(number: u8) -> Outcome
 fn prepare(block: &[u8], out: &[u8], e: usize, f: usize) -> Outcome
     ensures { λ r. ⌜ r ≡ outcomeOf (now (block .entry)) (now (out .entry)) e f ⌝ }
 {
-    let found = edge_at(block, out, e, f);
+    let found = edge_at(block, out, e, f, true);
     let answer = found.answer;
     let ring = found.ring;
     if let Answer::Refused(number) = answer {
@@ -61,6 +61,7 @@ fn prepare(block: &[u8], out: &[u8], e: usize, f: usize) -> Outcome
         n,
         smaller(e, f),
         larger(e, f),
+        found.closed,
         ring,
     );
     let answer = planned.answer;

@@ -1,5 +1,5 @@
 -- A printout of bytes has at most 512 bytes: counts, point numbers and regions have at most three digits and a score four,
--- a ring has at most ten points, and there are at most sixteen new rows.
+-- a ring or a chain has at most ten points, and there are at most sixteen new rows.
 use Prim.Native.Nat.{ℕ, zero, suc, _+_, _-_, _*_, _^_, _≤_, _<_}
 use mathlib.Core.Bool.{Bool, true, false, cond}
 use mathlib.Core.List.{List, [], _∷_, flatMap, List·Memᴰ, List·Memᴰ·head}
@@ -122,7 +122,7 @@ module _ (block : List ℕ) (bytes : T (every isByte block)) (e f : ℕ) (sound 
   ring-small : T (every small (site .ring))
   ring-small = every-i small (site .ring) λ x k. lt→ltb x 1000 (omega (arith, ring-point block e f sound k .below, few-points))
 
-  -- a point of the ring, or 0 where there is none
+  -- a point of the ring, or of the chain, or 0 where there is none
   point-small : (i : ℕ) → small (v site i) ≡ true
   point-small zero = refl
   point-small (suc i) = go (ltb i (length (site .ring))) refl

@@ -80,7 +80,7 @@ summaryFields summary =
 abbrev pub answerLine : ℕ → List ℕ
 answerLine answer = line "answer" (decimal answer ∷ [])
 
--- `ring` the ring
+-- `ring` the ring, or the chain
 abbrev pub ringLine : List ℕ → List ℕ
 ringLine ring = line "ring" (map decimal ring)
 
@@ -88,7 +88,7 @@ ringLine ring = line "ring" (map decimal ring)
 abbrev pub rowLine : Row → List ℕ
 rowLine row = line "row" (map decimal (rowBytes row))
 
--- `before` and `after`, `ring` the ring, and each `row` four numbers and the region of a new row, in written order
+-- `before` and `after`, `ring` the ring or the chain, and each `row` four numbers and the region of a new row, in written order
 unfoldable pub report : List ℕ → List ℕ → Site → List ℕ
 report block output site =
     line "before" (summaryFields (summaryOf (fieldsOf block)))

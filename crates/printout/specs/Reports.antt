@@ -1,4 +1,4 @@
--- What a report is made from: two summaries, the ring, and the block that was written.
+-- What a report is made from: two summaries, the ring or the chain, and the block that was written.
 use Prim.Native.Nat.{ℕ, _-_, _*_, _≤_}
 use mathlib.Core.List.{List, _++_, flatMap}
 use mathlib.Core.Path.{_≡_}
@@ -22,7 +22,7 @@ doneLines before after ring output =
     ++ ringLine (take (ring .m) (ring .v))
     ++ flatMap rowLine (drop (keptRows ring output) (fieldsOf output .rows))
 
--- A ring of 3 to 10 points, and a block with all of its new rows.
+-- A ring or a chain of 3 to 10 points, and a block with all of its new rows.
 pub record Reportable (ring : Ring) (output : List ℕ) : Type 0 where
   pub from-three : minRing ≤ ring .m
   pub to-ten : ring .m ≤ maxRing

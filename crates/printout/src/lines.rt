@@ -83,7 +83,7 @@ pub fn put_summary(text: Text, summary: Summary) -> Text
     put_end(put_octave(put_score(inverted, worst), octave))
 }
 
-// The line of the ring.
+// The line of the ring, or of the chain.
 pub fn put_ring(text: Text, ring: Ring) -> Text
     requires { ⌜ (ring .m ≤ maxRing) × (length (ring .v) ≡ maxRing) ⌝ }
     ensures { λ r. ⌜ Behind text (ringLine (take (ring .m) (ring .v))) r ⌝ }

@@ -83,9 +83,10 @@ returns c =
     carries (args .coordinates .now) (args .count) (args .table .now) (args .n) (args .a) (args .b) (start .pre .0) _
     (filled .fill .ensures .0)
     _ _ (place .cell-at .ensures) (read .best-at .ensures) _
-    (carried-out (args .coordinates .now) (args .count) (args .table .now) (args .n) (args .a) (args .b) (start .pre .0) _
+    (λ unshut.
+    carried-out (args .coordinates .now) (args .count) (args .table .now) (args .n) (args .a) (args .b) (start .pre .0) _
     (filled .fill .ensures .0)
-    (start .pre .1) _ (kept .keep-others .ensures .0) _ (kept .keep-others .ensures .1) _ (region .region-of .ensures) _ _
+    (start .pre .1) _ (kept .keep-others .ensures .0) _ (kept .keep-others .ensures .1) _ (region .region-of .ensures) unshut _ _
     (c .before .expand .ensures .1))
 
 pub carry-out-spec : {M : Type 1} → statement M

@@ -1,5 +1,6 @@
 -- Each way out is one case of the laws on answers 1 to 13.
 use Prim.Native.Nat.{ℕ}
+use mathlib.Core.Bool.{Bool}
 use mathlib.Core.List.{List}
 use mathlib.Core.Path.{_≡_, _∙_}
 use native.Mathlib.Omega.{arith}
@@ -34,6 +35,9 @@ At-block =
       find-reads.Learnt,
     ) reads.Pre reads.Post
 
+abbrev chainsOf : At-block → Bool
+chainsOf k = k .before .before .before .before .before .before .args .chains
+
 abbrev blockOf : At-block → List ℕ
 blockOf k = k .before .before .before .before .before .before .args .block .now
 
@@ -49,7 +53,7 @@ fOf k = k .before .before .before .before .before .before .args .f
 size : (k : At-block) → length (blockOf k) ≡ blockBytes
 size k =
     block-size (blockOf k)
-    (edge-opens (blockOf k) (outOf k) (eOf k) (fOf k) _ (k .before .before .before .blocks-answer .ensures)
+    (edge-opens (chainsOf k) (blockOf k) (outOf k) (eOf k) (fOf k) _ (k .before .before .before .blocks-answer .ensures)
     (k .before .enum-told .given .1))
 
 blocks-answer-requires : tie.Need-blocks-answer-requires
@@ -68,8 +72,8 @@ returns : tie.Need-returns
 returns c =
     let args = c .before .before .before .before .before .before .args in
     c .no-ring .ensures
-    ∙ edge-blocked (args .block .now) (args .out .now) (args .e) (args .f) _ _ (c .before .before .before .blocks-answer .ensures)
-    (c .before .enum-told2 .given .1)
+    ∙ edge-blocked (args .chains) (args .block .now) (args .out .now) (args .e) (args .f) _ _
+    (c .before .before .before .blocks-answer .ensures) (c .before .enum-told2 .given .1)
 
 shared-slice-read-count : tie.Need-shared-slice-read-count
 shared-slice-read-count c = omega (arith, size c)
@@ -84,7 +88,7 @@ returns-2 : tie.Need-returns-2
 returns-2 c =
     let k = c .before .before in
     c .no-ring2 .ensures
-    ∙ edge-9-first (blockOf k) (outOf k) (eOf k) (fOf k) _ (k .before .before .before .blocks-answer .ensures)
+    ∙ edge-9-first (chainsOf k) (blockOf k) (outOf k) (eOf k) (fOf k) _ (k .before .before .before .blocks-answer .ensures)
     (k .before .enum-told .given .1) (c .before .if1 .taken)
 
 no-ring-requires-3 : tie.Need-no-ring-requires-3
@@ -94,7 +98,7 @@ returns-3 : tie.Need-returns-3
 returns-3 c =
     let k = c .before .before .before in
     c .no-ring3 .ensures
-    ∙ edge-9-second (blockOf k) (outOf k) (eOf k) (fOf k) _ (k .before .before .before .blocks-answer .ensures)
+    ∙ edge-9-second (chainsOf k) (blockOf k) (outOf k) (eOf k) (fOf k) _ (k .before .before .before .blocks-answer .ensures)
     (k .before .enum-told .given .1)
     (c .before .before .if1 .left) (c .before .if2 .taken)
 
@@ -105,7 +109,7 @@ returns-4 : tie.Need-returns-4
 returns-4 c =
     let k = c .before .before .before .before in
     c .no-ring4 .ensures
-    ∙ edge-9-same (blockOf k) (outOf k) (eOf k) (fOf k) _ (k .before .before .before .blocks-answer .ensures)
+    ∙ edge-9-same (chainsOf k) (blockOf k) (outOf k) (eOf k) (fOf k) _ (k .before .before .before .blocks-answer .ensures)
     (k .before .enum-told .given .1)
     (c .before .before .before .if1 .left) (c .before .before .if2 .left) (c .before .if3 .taken)
 
@@ -144,7 +148,8 @@ find-requires : tie.Need-find-requires
 find-requires c κs =
     let l = c .before .before .before .before in
     let k = l .before .before .before in
-    edge-table (blockOf k) (outOf k) (eOf k) (fOf k) _ (k .before .before .before .blocks-answer .ensures) (k .before .enum-told .given .1)
+    edge-table (chainsOf k) (blockOf k) (outOf k) (eOf k) (fOf k) _ (k .before .before .before .blocks-answer .ensures)
+    (k .before .enum-told .given .1)
     _ _ (c .before .smaller .ensures) (c .larger .ensures) (l .if3 .left)
 
 returns-5 : tie.Need-returns-5
@@ -152,7 +157,8 @@ returns-5 c =
     let g = c .before in
     let l = g .before .before .before .before in
     let k = l .before .before .before in
-    edge-ring (blockOf k) (outOf k) (eOf k) (fOf k) _ (k .before .before .before .blocks-answer .ensures) (k .before .enum-told .given .1)
+    edge-ring (chainsOf k) (blockOf k) (outOf k) (eOf k) (fOf k) _ (k .before .before .before .blocks-answer .ensures)
+    (k .before .enum-told .given .1)
     _ _ (g .before .smaller .ensures) (g .larger .ensures) (l .before .before .if1 .left) (l .before .if2 .left)
     (l .if3 .left) _ (c .find .ensures)
 

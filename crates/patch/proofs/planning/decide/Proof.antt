@@ -1,51 +1,125 @@
--- Each way out is one case of the laws on answers 14 to 17.
-use mathlib.Core.Path.{sym, _∙_}
+-- Each way out is one case of the laws on answers 19 and 14 to 17.
+use Prim.Native.Nat.{_≤_}
+use mathlib.Core.Bool.{false}
+use mathlib.Core.Path.{_≡_, sym, _∙_}
+use native.Mathlib.Omega.{arith}
 use borrow.Author.Needs.{needs}
 use borrow.Author.Tests.{not-true, not-false}
 use Rattle.measure.proofs.Computed.{read}
-use Rattle.patch.proofs.Decided.{ring-fits, ring-long, has-room, gives-14, gives-15, gives-16, measured-way, gives-17, gives-0}
+use Rattle.block.specs.Layout.{maxRows}
+use Rattle.ring.specs.Ring.{Site, notFlat}
+use Rattle.pieces.specs.Triangulation.{rowsAfter}
+use Rattle.pieces.specs.Filling.{siteIn}
+use Rattle.patch.proofs.Decided.{ring-long, gone-fit, has-room, measured-way}
+use Rattle.patch.proofs.Decided.{gives-19, gives-14, gives-15, gives-16, gives-17, gives-0}
 use Rattle.patch.proofs.planning.decide.Statement.{statement}
 use Rattle.patch.proofs.planning.decide.Tie as tie
+use Rattle.patch.proofs.planning.decide.Reads as reads
+use Rattle.patch.proofs.planning.decide.Lts as lts
+use Rattle.measure.proofs.Quality.worse.Reads as worse-reads
+use Rattle.patch.proofs.carrying.carry_out.Reads as carry-out-reads
+use Rattle.patch.proofs.planning.differ.Reads as differ-reads
+use Rattle.patch.proofs.planning.going.Reads as going-reads
+use Rattle.patch.proofs.planning.no_plan.Reads as no-plan-reads
+use Rattle.patch.proofs.planning.not_flat.Reads as not-flat-reads
+use Rattle.tally.proofs.total_volume.Reads as total-volume-reads
+use Rattle.tally.proofs.worst_round.Reads as worst-round-reads
 
-cast-m : tie.Need-cast-m
-cast-m c = search needs
+-- behind answers 19 and 14
+abbrev At-room : Type 0
+At-room =
+    lts.Else2 (
+      not-flat-reads.Asked,
+      not-flat-reads.Learnt,
+      no-plan-reads.Asked,
+      no-plan-reads.Learnt,
+      going-reads.Asked,
+      going-reads.Learnt,
+      carry-out-reads.Asked,
+      carry-out-reads.Learnt,
+      worst-round-reads.Asked,
+      worst-round-reads.Learnt,
+      worse-reads.Asked,
+      worse-reads.Learnt,
+      total-volume-reads.Asked,
+      total-volume-reads.Learnt,
+      differ-reads.Asked,
+      differ-reads.Learnt,
+    ) reads.Pre reads.Post
 
-sub-if1 : tie.Need-sub-if1
-sub-if1 c =
-    let start = c .before .before .before in
+abbrev siteAt : At-room → Site
+siteAt k =
+    let args = k .before .before .before .before .before .before .before .args in
+    siteIn (args .coordinates .now) (args .count) (args .table .now) (args .n) (args .a) (args .b)
+
+level : (k : At-room) → notFlat (siteAt k) ≡ false
+level k = sym (k .before .before .before .before .not-flat .ensures) ∙ k .before .before .before .if1 .left
+
+room : (k : At-room) → rowsAfter (siteAt k) ≤ maxRows
+room k =
+    let gone = k .before in
+    let start = gone .before .before .before .before .before .before in
     let args = start .args in
-    ring-fits (args .coordinates .now) (args .count) (args .table .now) (args .n) (args .a) (args .b) (start .pre)
+    has-room (args .coordinates .now) (args .count) (args .table .now) (args .n) (args .a) (args .b) (start .pre) _ (gone .going .ensures)
+    (k .if2 .left)
 
-sub-if1-2 : tie.Need-sub-if1-2
-sub-if1-2 c =
-    let start = c .before .before .before in
-    let args = start .args in
-    ring-long (args .coordinates .now) (args .count) (args .table .now) (args .n) (args .a) (args .b) (start .pre)
-
-mul-if1 : tie.Need-mul-if1
-mul-if1 c = search needs
-
-add-if1 : tie.Need-add-if1
-add-if1 c = search needs
+not-flat-requires : tie.Need-not-flat-requires
+not-flat-requires c κs = search needs
 
 no-plan-requires : tie.Need-no-plan-requires
 no-plan-requires c κs = search needs
 
 returns : tie.Need-returns
 returns c =
-    let start = c .before .before .before .before .before in
+    let judged = c .before .before in
+    let start = judged .before .before .before in
     let args = start .args in
     c .no-plan .ensures
-    ∙ gives-14 (args .coordinates .now) (args .count) (args .table .now) (args .n) (args .a) (args .b) (start .pre) (c .before .if1 .taken)
+    ∙ gives-19 (args .coordinates .now) (args .count) (args .table .now) (args .n) (args .a) (args .b) (start .pre)
+    (sym (judged .not-flat .ensures) ∙ c .before .if1 .taken)
+
+cast-m : tie.Need-cast-m
+cast-m c = search needs
+
+going-requires : tie.Need-going-requires
+going-requires c κs =
+    let start = c .before .before .before .before .before in
+    let args = start .args in
+    omega (arith, ring-long (args .coordinates .now) (args .count) (args .table .now) (args .n) (args .a) (args .b) (start .pre))
+
+sub-if2 : tie.Need-sub-if2
+sub-if2 c =
+    let start = c .before .before .before .before .before .before in
+    let args = start .args in
+    gone-fit (args .coordinates .now) (args .count) (args .table .now) (args .n) (args .a) (args .b) (start .pre) _ (c .going .ensures)
+
+sub-if2-2 : tie.Need-sub-if2-2
+sub-if2-2 c =
+    let start = c .before .before .before .before .before .before in
+    let args = start .args in
+    ring-long (args .coordinates .now) (args .count) (args .table .now) (args .n) (args .a) (args .b) (start .pre)
+
+mul-if2 : tie.Need-mul-if2
+mul-if2 c = search needs
+
+add-if2 : tie.Need-add-if2
+add-if2 c = search needs
+
+no-plan-requires-2 : tie.Need-no-plan-requires-2
+no-plan-requires-2 c κs = search needs
+
+returns-2 : tie.Need-returns-2
+returns-2 c =
+    let gone = c .before .before in
+    let judged = gone .before .before .before in
+    let start = judged .before .before .before in
+    let args = start .args in
+    c .no-plan2 .ensures
+    ∙ gives-14 (args .coordinates .now) (args .count) (args .table .now) (args .n) (args .a) (args .b) (start .pre)
+    (sym (judged .not-flat .ensures) ∙ gone .before .before .if1 .left) _ (gone .going .ensures) (c .before .if2 .taken)
 
 carry-out-requires : tie.Need-carry-out-requires
-carry-out-requires c κs =
-    let start = c .before .before .before .before in
-    let args = start .args in (
-      start .pre,
-      has-room (args .coordinates .now) (args .count) (args .table .now) (args .n) (args .a) (args .b)
-          (start .pre) (c .if1 .left),
-    )
+carry-out-requires c κs = (c .before .before .before .before .before .before .before .pre, room c)
 
 enum-known-best : tie.Need-enum-known-best
 enum-known-best c = search needs
@@ -53,17 +127,17 @@ enum-known-best c = search needs
 enum-told : tie.Need-enum-told
 enum-told c = search needs
 
-no-plan-requires-2 : tie.Need-no-plan-requires-2
-no-plan-requires-2 c κs = search needs
+no-plan-requires-3 : tie.Need-no-plan-requires-3
+no-plan-requires-3 c κs = search needs
 
-returns-2 : tie.Need-returns-2
-returns-2 c =
+returns-3 : tie.Need-returns-3
+returns-3 c =
     let carried = c .before .before .before .before in
-    let start = carried .before .before .before .before .before in
+    let start = carried .before .before .before .before .before .before .before .before in
     let args = start .args in
-    c .no-plan2 .ensures
+    c .no-plan3 .ensures
     ∙ gives-15 (args .coordinates .now) (args .count) (args .table .now) (args .n) (args .a) (args .b) (start .pre)
-    (carried .before .if1 .left)
+    (level (carried .before)) (room (carried .before))
     _ (carried .carry-out .ensures) (c .before .enum-told .given .1)
 
 worst-round-requires : tie.Need-worst-round-requires
@@ -72,100 +146,106 @@ worst-round-requires c κs = search needs
 worse-requires : tie.Need-worse-requires
 worse-requires c κs = search needs
 
-no-plan-requires-3 : tie.Need-no-plan-requires-3
-no-plan-requires-3 c κs = search needs
+no-plan-requires-4 : tie.Need-no-plan-requires-4
+no-plan-requires-4 c κs = search needs
 
-returns-3 : tie.Need-returns-3
-returns-3 c =
+returns-4 : tie.Need-returns-4
+returns-4 c =
     let compared = c .before .before in
     let told = compared .before .before .before in
     let carried = told .before .before .before in
-    let start = carried .before .before .before .before .before in
+    let start = carried .before .before .before .before .before .before .before .before in
     let args = start .args in
-    c .no-plan3 .ensures
+    c .no-plan4 .ensures
     ∙ gives-16 (args .coordinates .now) (args .count) (args .table .now) (args .n) (args .a) (args .b) (start .pre)
-    (carried .before .if1 .left)
+    (level (carried .before)) (room (carried .before))
     _ (carried .carry-out .ensures) _ (told .best .given .1) _ (compared .before .worst-round .ensures)
-    (sym (compared .worse .ensures) ∙ not-true _ (c .before .if2 .taken))
+    (sym (compared .worse .ensures) ∙ not-true _ (c .before .if3 .taken))
 
 total-volume-requires : tie.Need-total-volume-requires
-total-volume-requires c κs = search needs
+total-volume-requires c κs =
+    let carried = c .before .before .before .before .before .before .before in
+    carried .before .before .before .before .before .before .before .before .pre .measured
 
 total-volume-requires-2 : tie.Need-total-volume-requires-2
 total-volume-requires-2 c κs =
     let compared = c .before .before .before .before .before in
     let told = compared .before .before .before in
     let carried = told .before .before .before in
-    let start = carried .before .before .before .before .before in
+    let start = carried .before .before .before .before .before .before .before .before in
     let args = start .args in
     measured-way (args .coordinates .now) (args .count) (args .table .now) (args .n) (args .a) (args .b) (start .pre)
-    (carried .before .if1 .left)
+    (level (carried .before)) (room (carried .before))
     _ (carried .carry-out .ensures) _ (told .best .given .1) _ (compared .before .worst-round .ensures)
 
 differ-requires : tie.Need-differ-requires
 differ-requires c κs = search needs
 
-no-plan-requires-4 : tie.Need-no-plan-requires-4
-no-plan-requires-4 c κs = search needs
+no-plan-requires-5 : tie.Need-no-plan-requires-5
+no-plan-requires-5 c κs = search needs
 
-returns-4 : tie.Need-returns-4
-returns-4 c =
+returns-5 : tie.Need-returns-5
+returns-5 c =
     let left = c .before .before .before .before .before .before .before .before in
     let sum = c .before .before .before .before .before .before .before .total-volume in
     let sum2 = c .before .before .before .total-volume2 in
     let compared = left .before in
     let told = compared .before .before .before in
     let carried = told .before .before .before in
-    let start = carried .before .before .before .before .before in
+    let start = carried .before .before .before .before .before .before .before .before in
     let args = start .args in
-    c .no-plan4 .ensures
+    c .no-plan5 .ensures
     ∙ gives-17 (args .coordinates .now) (args .count) (args .table .now) (args .n) (args .a) (args .b) (start .pre)
-    (carried .before .if1 .left)
+    (level (carried .before)) (room (carried .before))
     _ (carried .carry-out .ensures) _ (told .best .given .1) _ (compared .before .worst-round .ensures)
-    (sym (compared .worse .ensures) ∙ not-false _ (left .if2 .left))
+    (sym (compared .worse .ensures) ∙ not-false _ (left .if3 .left))
     _ _ (read (sum .ok) (sum .ensures)) (read (sum2 .ok) (sum2 .ensures))
-    (sym (c .before .before .differ .ensures) ∙ c .before .if3 .taken)
+    (sym (c .before .before .differ .ensures) ∙ c .before .if4 .taken)
 
-returns-5 : tie.Need-returns-5
-returns-5 c =
+returns-6 : tie.Need-returns-6
+returns-6 c =
     let left = c .before .before .before .before .before .before .before in
     let sum = c .before .before .before .before .before .before .total-volume in
     let sum2 = c .before .before .total-volume2 in
     let compared = left .before in
     let told = compared .before .before .before in
     let carried = told .before .before .before in
-    let start = carried .before .before .before .before .before in
+    let start = carried .before .before .before .before .before .before .before .before in
     let args = start .args in
     gives-0 (args .coordinates .now) (args .count) (args .table .now) (args .n) (args .a) (args .b) (start .pre)
-    (carried .before .if1 .left)
+    (level (carried .before)) (room (carried .before))
     _ (carried .carry-out .ensures) _ (told .best .given .1) _ (compared .before .worst-round .ensures)
-    (sym (compared .worse .ensures) ∙ not-false _ (left .if2 .left))
+    (sym (compared .worse .ensures) ∙ not-false _ (left .if3 .left))
     _ _ (read (sum .ok) (sum .ensures)) (read (sum2 .ok) (sum2 .ensures))
-    (sym (c .before .differ .ensures) ∙ c .if3 .left)
+    (sym (c .before .differ .ensures) ∙ c .if4 .left)
 
 pub decide-spec : {M : Type 1} → statement M
 decide-spec =
     tie.close
     (tie.spec
-    cast-m
-    sub-if1
-    sub-if1-2
-    mul-if1
-    add-if1
+    not-flat-requires
     no-plan-requires
     returns
+    cast-m
+    going-requires
+    sub-if2
+    sub-if2-2
+    mul-if2
+    add-if2
+    no-plan-requires-2
+    returns-2
     carry-out-requires
     enum-known-best
     enum-told
-    no-plan-requires-2
-    returns-2
-    worst-round-requires
-    worse-requires
     no-plan-requires-3
     returns-3
+    worst-round-requires
+    worse-requires
+    no-plan-requires-4
+    returns-4
     total-volume-requires
     total-volume-requires-2
     differ-requires
-    no-plan-requires-4
-    returns-4
-    returns-5)
+    no-plan-requires-5
+    returns-5
+    returns-6)

@@ -1,14 +1,15 @@
 -- The loop passes every cell once.
-use Prim.Native.Nat.{_≤_, _-_}
+use Prim.Native.Nat.{_*_, _≤_, _-_}
 use native.Mathlib.Omega.{arith}
+use Rattle.vectors.specs.Counting.{calls, answers}
 use Rattle.vectors.proofs.counts.print_cells.Statement.{statement}
 use Rattle.vectors.proofs.counts.print_cells.Tie as tie
 
 abbrev Inv-loop : tie.InvT-loop
-Inv-loop cases agreeing i₀ i = i ≤ 120
+Inv-loop cases agreeing i₀ i = i ≤ calls * answers
 
 abbrev μ-loop : tie.MeasureT-loop
-μ-loop cases agreeing i₀ i = 120 - i
+μ-loop cases agreeing i₀ i = calls * answers - i
 
 loop-holds : tie.Need-loop-holds Inv-loop μ-loop
 loop-holds c = omega arith

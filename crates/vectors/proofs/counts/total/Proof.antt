@@ -1,14 +1,15 @@
 -- The loop passes every cell once.
-use Prim.Native.Nat.{_≤_, _-_}
+use Prim.Native.Nat.{_*_, _≤_, _-_}
 use native.Mathlib.Omega.{arith}
+use Rattle.vectors.specs.Counting.{calls, answers}
 use Rattle.vectors.proofs.counts.total.Statement.{statement}
 use Rattle.vectors.proofs.counts.total.Tie as tie
 
 abbrev Inv-loop : tie.InvT-loop
-Inv-loop cells sum₀ i₀ sum i = i ≤ 120
+Inv-loop cells sum₀ i₀ sum i = i ≤ calls * answers
 
 abbrev μ-loop : tie.MeasureT-loop
-μ-loop cells sum₀ i₀ sum i = 120 - i
+μ-loop cells sum₀ i₀ sum i = calls * answers - i
 
 loop-holds : tie.Need-loop-holds Inv-loop μ-loop
 loop-holds c = omega arith
