@@ -1,6 +1,6 @@
 -- Answers 19 and 14 to 17 of a removal, one by one: what decides each, given what the tests above it found.
 use Prim.Native.Nat.{ℕ, suc, _+_, _-_, _*_, _≤_, _<_, min, max}
-use mathlib.Core.Bool.{Bool, true, false, cond, not}
+use mathlib.Core.Bool.{Bool, true, false, cond, not, _||_}
 use mathlib.Core.List.{List, [], _∷_, map}
 use mathlib.Core.Option.{Option, none, some, Option·getD}
 use mathlib.Core.Path.{_≡_, refl, sym, ap, _∙_, subst}
@@ -14,7 +14,6 @@ use Rattle.lists.proofs.Lists.{those-split}
 use Rattle.measure.specs.declared.Quality.{Quality}
 use Rattle.measure.specs.Measure.{pointsIn, sameZ, worse, worst, asGood, zeroQuality}
 use Rattle.measure.proofs.Points.{points-length}
-use Rattle.mesh.specs.declared.Row.{Row}
 use Rattle.mesh.specs.Mesh.{rowsIn, holdsEdge, numbersFit, rowD, rowQuality, totalD}
 use Rattle.mesh.proofs.Rule.{keeps-fits}
 use Rattle.mesh.proofs.Tables.{rows-length}
@@ -22,7 +21,7 @@ use Rattle.block.specs.declared.Answer.the-variants.{Done, Refused}
 use Rattle.block.specs.Layout.{Patch, maxRows}
 use Rattle.block.specs.Answers.{firstRefusal, coordinateOver}
 use Rattle.block.proofs.Refusals.{passed, goes-on, refuses}
-use Rattle.tally.specs.Measured.{Placed, Measured, patchIn}
+use Rattle.tally.specs.Measured.{Measured, patchIn}
 use Rattle.ring.specs.declared.Ring.{Ring}
 use Rattle.ring.specs.Ring.{Site, siteOf, m, maxRing, flat, notFlat}
 use Rattle.ring.specs.Sound.{SoundRing}
@@ -37,7 +36,7 @@ use Rattle.patch.specs.declared.carrying.Carried.{Carried}
 use Rattle.patch.specs.declared.carrying.Rows.{Rows}
 use Rattle.patch.specs.declared.planning.Plan.{Plan}
 use Rattle.patch.specs.Removing.{worstNow, noRoom, noWay, noneBetter, patchAfter, totalDiffers}
-use Rattle.patch.specs.Steps.{Ringed, Carries, rowsWith, planAnswer, planWith, planOf, noPlan}
+use Rattle.patch.specs.Steps.{Ringed, Crossed, Carries, across, rowsWith, planAnswer, planWith, planOf, noPlan}
 use Rattle.patch.proofs.Deciding.{mark-no-way, best-some-way, best-decides, chosen-keeps, chosen-rows}
 use Rattle.patch.proofs.Handed.{Number, number-handed, handed-done}
 
@@ -104,17 +103,10 @@ module _ (coordinates : List ℕ) (count : ℕ) (table : List ℕ) (n a b : ℕ)
   most : max a b ≡ b
   most = omega (arith, given .ready .ordered)
 
-  pub ring-short : ring .m ≤ maxRing
-  ring-short = omega (arith, ring-size, given .ready .short)
-
   at-place : (i : ℕ) → i < m its → getD (ring .v) i 0 ≡ getD (its .ring) i 0
   at-place i h =
       ap (λ (r : Ring). getD (r .v) i 0) (given .ready .found)
       ∙ List·getD-append (its .ring) (replicate (maxRing - m its) 0) 0 i h
-
-  -- its points: a, b, v1 and vm
-  abbrev across : Row
-  across = record { p = a; q = b; r = getD (ring .v) 0 0; s = getD (ring .v) (ring .m - 1) 0; region = 0 }
 
   first-place : getD (ring .v) 0 0 ≡ getD (its .ring) 0 0
   first-place = at-place 0 (omega (arith, three))
@@ -122,13 +114,17 @@ module _ (coordinates : List ℕ) (count : ℕ) (table : List ℕ) (n a b : ℕ)
   last-place : getD (ring .v) (ring .m - 1) 0 ≡ getD (its .ring) (m its - 1) 0
   last-place = ap (λ k. getD (ring .v) (k - 1) 0) ring-size ∙ at-place (m its - 1) (omega (arith, three))
 
-  pub across-placed : Placed coordinates count across
-  across-placed = record {
-    points-held = given .ready .points;
-    below-p = omega (arith, given .ready .ordered, given .ready .below);
-    below-q = given .ready .below;
-    below-r = rw first-place (given .ready .ring-below 0 (omega (arith, three)));
-    below-s = rw last-place (given .ready .ring-below (m its - 1) (omega (arith, three)));
+  pub crossed : Crossed coordinates count a b ring
+  crossed = record {
+    some-point = omega (arith, ring-long);
+    short = omega (arith, ring-size, given .ready .short);
+    placed = record {
+      points-held = given .ready .points;
+      below-p = omega (arith, given .ready .ordered, given .ready .below);
+      below-q = given .ready .below;
+      below-r = rw first-place (given .ready .ring-below 0 (omega (arith, three)));
+      below-s = rw last-place (given .ready .ring-below (m its - 1) (omega (arith, three)));
+    };
   }
 
   own-a : its .a ≡ a
@@ -143,16 +139,10 @@ module _ (coordinates : List ℕ) (count : ℕ) (table : List ℕ) (n a b : ℕ)
   unfolding siteOf
   own-points = refl
 
-  -- a closed ring passes
-  pub closed-passes : closed ≡ true → false ≡ notFlat its
-  closed-passes e = let own : its .closed ≡ true = sym (given .ready .is-closed) ∙ e in rw own
-
-  -- an open chain passes if D of the row across it is 0
-  pub open-judged : closed ≡ false → (d : ℤ) → d ≡ rowD (pointsIn coordinates count) across → not (sameZ d (pos 0)) ≡ notFlat its
+  -- a closed ring passes, and an open chain does if D of the row across it is 0
+  pub flat-is : not (closed || sameZ (rowD (pointsIn coordinates count) (across a b ring)) (pos 0)) ≡ notFlat its
   unfolding flat rowD
-  open-judged e d d-is =
-      let own : its .closed ≡ false = sym (given .ready .is-closed) ∙ e in
-      rw (own, d-is, first-place, last-place, own-a, own-b, own-points)
+  flat-is = rw (given .ready .is-closed, first-place, last-place, own-a, own-b, own-points)
 
   -- the rows afterwards can be measured
   module _ (rows : Rows) (rows-are : rows ≡ rowsWith (tableAfter its (chosen its))) (way : noWay its ≡ false)

@@ -1,20 +1,20 @@
 -- The steps that the calls on an edge share: the edge with its ring or chain, the rows afterwards, and answers 19 and 14 to 17.
-use Prim.Native.Nat.{ℕ, _<_}
+use Prim.Native.Nat.{ℕ, _-_, _≤_, _<_}
 use mathlib.Core.Bool.{Bool, false, cond}
 use mathlib.Core.List.{List, [], _∷_, _++_}
 use mathlib.Core.Option.{some}
 use mathlib.Core.Path.{_≡_}
 use lib.Dec.{T, eqb}
-use lib.ListN.{length}
+use lib.ListN.{length, getD}
 use Rattle.measure.specs.declared.Quality.{Quality}
 use Rattle.mesh.specs.declared.Row.{Row}
 use Rattle.block.specs.declared.Answer.{Answer}
 use Rattle.block.specs.Layout.{Patch, fieldsOf}
 use Rattle.block.specs.Answers.{firstRefusal, answerOf}
-use Rattle.tally.specs.Measured.{Measured}
+use Rattle.tally.specs.Measured.{Placed, Measured}
 use Rattle.ring.specs.declared.Found.{Found}
 use Rattle.ring.specs.declared.Ring.{Ring}
-use Rattle.ring.specs.Ring.{Site, siteOf, m, edgeTests, lengthWrong, notFlat, ringWith}
+use Rattle.ring.specs.Ring.{Site, siteOf, m, maxRing, edgeTests, lengthWrong, notFlat, ringWith}
 use Rattle.ring.specs.Found.{foundWith}
 use Rattle.ring.specs.Sound.{SoundRing}
 use Rattle.pieces.specs.Triangulation.{tableAfter}
@@ -64,6 +64,16 @@ pub record Carries (site : Site) (r : Carried) : Type 0 where
   pub rows : (q : Quality) → bestOf (r .best) ≡ some q → r .rows ≡ rowsWith (tableAfter site (chosen site))
 
 -- ---- answers 19 and 14 to 17
+
+-- the row across an open chain: a, b, v1 and vm
+abbrev pub across : ℕ → ℕ → Ring → Row
+across a b ring = record { p = a; q = b; r = getD (ring .v) 0 0; s = getD (ring .v) (ring .m - 1) 0; region = 0 }
+
+-- The ring or chain is not empty, and that row's points have their coordinates.
+pub record Crossed (coordinates : List ℕ) (count a b : ℕ) (ring : Ring) : Type 0 where
+  pub some-point : 0 < ring .m
+  pub short : ring .m ≤ maxRing
+  pub placed : Placed coordinates count (across a b ring)
 
 -- 19 and 14 to 17, tested from the top
 unfoldable pub planAnswer : Patch → Site → ℕ

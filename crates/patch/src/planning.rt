@@ -1,14 +1,15 @@
 // Answers 19 and 14 to 17, and the rows afterwards.
 ghost use Prim.Native.Nat.{_+_, _<_};
-ghost use mathlib.Core.Bool.{cond, not};
+ghost use mathlib.Core.Bool.{cond, not, _||_};
 ghost use mathlib.Core.Path.{_≡_};
-ghost use Rattle.measure.specs.Measure.{sameZ};
+ghost use lib.IntN.{pos};
+ghost use Rattle.measure.specs.Measure.{pointsIn, sameZ};
 ghost use Rattle.measure.specs.Page.{shown, pageRow};
-ghost use Rattle.ring.specs.Ring.{notFlat};
+ghost use Rattle.mesh.specs.Mesh.{rowD};
 ghost use Rattle.pieces.specs.Filling.{siteIn};
 ghost use Rattle.tally.specs.Measured.{Measured, patchIn};
 ghost use Rattle.tally.specs.Summing.{worstOfPatch};
-ghost use Rattle.patch.specs.Steps.{Ringed, planOf, noPlan};
+ghost use Rattle.patch.specs.Steps.{Ringed, Crossed, across, planOf, noPlan};
 use crate::carrying::Rows;
 use crate::carrying::carry_out;
 use crate::carrying::no_rows;
@@ -45,32 +46,23 @@ fn differ(x: i64, y: i64) -> bool
     y < x
 }
 
-// The chain is not flat: it is open, and D(a,b,v1,vm) is not 0. `table` and `n` are for the contract alone: they say which chain.
-fn not_flat(
-    coordinates: &[u8],
-    count: usize,
-    table: &[u8],
-    n: usize,
-    a: u8,
-    b: u8,
-    closed: bool,
-    ring: Ring,
-) -> bool
-    requires { ⌜ Ringed (now coordinates) count (now table) n a b closed ring ⌝ }
-    ensures { λ r. ⌜ r ≡ notFlat (siteIn (now (coordinates .entry)) count (now (table .entry)) n a b) ⌝ }
+// The chain is not flat: it is open, and D(a,b,v1,vm) is not 0.
+fn not_flat(coordinates: &[u8], count: usize, a: u8, b: u8, closed: bool, ring: Ring) -> bool
+    requires { ⌜ Crossed (now coordinates) count a b ring ⌝ }
+    ensures { λ r. ⌜ r ≡ not (closed || sameZ (rowD (pointsIn (now (coordinates .entry)) count) (across a b ring)) (pos 0)) ⌝ }
 {
     if closed {
         return false;
     }
     let last = ring.m as usize - 1;
-    let across = Row {
+    let outer = Row {
         p: a,
         q: b,
         r: ring.v[0],
         s: ring.v[last],
         region: 0,
     };
-    let d = tally::row_volume(coordinates, count, across);
+    let d = tally::row_volume(coordinates, count, outer);
     differ(d, 0)
 }
 
@@ -100,7 +92,7 @@ pub fn decide(
     ensures { λ r. ⌜ r ≡ planOf (patchIn (now (coordinates .entry)) count (now (table .entry)) n)
         (siteIn (now (coordinates .entry)) count (now (table .entry)) n a b) ⌝ }
 {
-    if not_flat(coordinates, count, table, n, a, b, closed, ring) {
+    if not_flat(coordinates, count, a, b, closed, ring) {
         return no_plan(Answer::Refused(19));
     }
     let m = ring.m as usize;

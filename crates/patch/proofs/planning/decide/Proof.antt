@@ -10,7 +10,7 @@ use Rattle.block.specs.Layout.{maxRows}
 use Rattle.ring.specs.Ring.{Site, notFlat}
 use Rattle.pieces.specs.Triangulation.{rowsAfter}
 use Rattle.pieces.specs.Filling.{siteIn}
-use Rattle.patch.proofs.Decided.{ring-long, gone-fit, has-room, measured-way}
+use Rattle.patch.proofs.Decided.{ring-long, crossed, flat-is, gone-fit, has-room, measured-way}
 use Rattle.patch.proofs.Decided.{gives-19, gives-14, gives-15, gives-16, gives-17, gives-0}
 use Rattle.patch.proofs.planning.decide.Statement.{statement}
 use Rattle.patch.proofs.planning.decide.Tie as tie
@@ -53,7 +53,13 @@ siteAt k =
     siteIn (args .coordinates .now) (args .count) (args .table .now) (args .n) (args .a) (args .b)
 
 level : (k : At-room) → notFlat (siteAt k) ≡ false
-level k = sym (k .before .before .before .before .not-flat .ensures) ∙ k .before .before .before .if1 .left
+level k =
+    let judged = k .before .before .before .before in
+    let start = judged .before .before .before in
+    let args = start .args in
+    sym (judged .not-flat .ensures
+    ∙ flat-is (args .coordinates .now) (args .count) (args .table .now) (args .n) (args .a) (args .b) (start .pre))
+    ∙ k .before .before .before .if1 .left
 
 room : (k : At-room) → rowsAfter (siteAt k) ≤ maxRows
 room k =
@@ -64,7 +70,10 @@ room k =
     (k .if2 .left)
 
 not-flat-requires : tie.Need-not-flat-requires
-not-flat-requires c κs = search needs
+not-flat-requires c κs =
+    let start = c .before .before in
+    let args = start .args in
+    crossed (args .coordinates .now) (args .count) (args .table .now) (args .n) (args .a) (args .b) (start .pre)
 
 no-plan-requires : tie.Need-no-plan-requires
 no-plan-requires c κs = search needs
@@ -76,7 +85,9 @@ returns c =
     let args = start .args in
     c .no-plan .ensures
     ∙ gives-19 (args .coordinates .now) (args .count) (args .table .now) (args .n) (args .a) (args .b) (start .pre)
-    (sym (judged .not-flat .ensures) ∙ c .before .if1 .taken)
+    (sym (judged .not-flat .ensures
+    ∙ flat-is (args .coordinates .now) (args .count) (args .table .now) (args .n) (args .a) (args .b) (start .pre))
+    ∙ c .before .if1 .taken)
 
 cast-m : tie.Need-cast-m
 cast-m c = search needs
@@ -116,7 +127,10 @@ returns-2 c =
     let args = start .args in
     c .no-plan2 .ensures
     ∙ gives-14 (args .coordinates .now) (args .count) (args .table .now) (args .n) (args .a) (args .b) (start .pre)
-    (sym (judged .not-flat .ensures) ∙ gone .before .before .if1 .left) _ (gone .going .ensures) (c .before .if2 .taken)
+    (sym (judged .not-flat .ensures
+    ∙ flat-is (args .coordinates .now) (args .count) (args .table .now) (args .n) (args .a) (args .b) (start .pre))
+    ∙ gone .before .before .if1 .left)
+    _ (gone .going .ensures) (c .before .if2 .taken)
 
 carry-out-requires : tie.Need-carry-out-requires
 carry-out-requires c κs = (c .before .before .before .before .before .before .before .pre, room c)

@@ -3,39 +3,26 @@ use mathlib.Core.Path.{_∙_}
 use native.Mathlib.Omega.{arith}
 use borrow.Author.Needs.{needs}
 use Rattle.measure.proofs.Computed.{read}
-use Rattle.patch.proofs.Decided.{ring-long, ring-short, across-placed, closed-passes, open-judged}
 use Rattle.patch.proofs.planning.not_flat.Statement.{statement}
 use Rattle.patch.proofs.planning.not_flat.Tie as tie
 
 returns : tie.Need-returns
-returns c =
-    let start = c .before .before .before in
-    let args = start .args in
-    closed-passes (args .coordinates .now) (args .count) (args .table .now) (args .n) (args .a) (args .b) (start .pre) (c .if1 .taken)
+returns c = rw (c .if1 .taken)
 
 cast-last : tie.Need-cast-last
 cast-last c = search needs
 
 sub-last : tie.Need-sub-last
-sub-last c =
-    let start = c .before .before .before in
-    let args = start .args in
-    omega (arith, ring-long (args .coordinates .now) (args .count) (args .table .now) (args .n) (args .a) (args .b) (start .pre))
+sub-last c = omega (arith, c .before .before .pre .some-point)
 
-element-copy-out-t14 : tie.Need-element-copy-out-t14
-element-copy-out-t14 c = search needs
+element-copy-out-t12 : tie.Need-element-copy-out-t12
+element-copy-out-t12 c = search needs
 
-element-copy-out-t20 : tie.Need-element-copy-out-t20
-element-copy-out-t20 c =
-    let start = c .before .before .before .before in
-    let args = start .args in
-    omega (arith, ring-short (args .coordinates .now) (args .count) (args .table .now) (args .n) (args .a) (args .b) (start .pre))
+element-copy-out-t18 : tie.Need-element-copy-out-t18
+element-copy-out-t18 c = let pre = c .before .before .before .pre in omega (arith, pre .some-point, pre .short)
 
 row-volume-requires : tie.Need-row-volume-requires
-row-volume-requires c κs =
-    let start = c .before .before .before .before .before in
-    let args = start .args in
-    across-placed (args .coordinates .now) (args .count) (args .table .now) (args .n) (args .a) (args .b) (start .pre)
+row-volume-requires c κs = c .before .before .before .before .pre .placed
 
 differ-requires : tie.Need-differ-requires
 differ-requires c κs = search needs
@@ -44,11 +31,7 @@ returns-2 : tie.Need-returns-2
 returns-2 c =
     let volume = c .before in
     let chain = volume .before .before .before in
-    let start = chain .before .before .before in
-    let args = start .args in
-    c .differ .ensures
-    ∙ open-judged (args .coordinates .now) (args .count) (args .table .now) (args .n) (args .a) (args .b) (start .pre)
-    (chain .if1 .left) _ (read (volume .row-volume .ok) (volume .row-volume .ensures .0))
+    c .differ .ensures ∙ rw (chain .if1 .left, read (volume .row-volume .ok) (volume .row-volume .ensures .0))
 
 pub not-flat-spec : {M : Type 1} → statement M
 not-flat-spec =
@@ -57,8 +40,8 @@ not-flat-spec =
     returns
     cast-last
     sub-last
-    element-copy-out-t14
-    element-copy-out-t20
+    element-copy-out-t12
+    element-copy-out-t18
     row-volume-requires
     differ-requires
     returns-2)
