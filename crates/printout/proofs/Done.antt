@@ -23,12 +23,12 @@ use Rattle.patch.specs.declared.Summarised.{Summarised}
 use Rattle.patch.specs.declared.Summarised.the-variants as Summarises
 use Rattle.patch.specs.Removing.{patchAfter, removeAnswer, removeBytes, removeGives, removalNumber}
 use Rattle.patch.specs.Summing.{summaryGives}
-use Rattle.patch.proofs.Accepting.{remove-accepted}
+use Rattle.demands.proofs.Accepting.{remove-accepted}
 use Rattle.patch.proofs.Answering.{removes}
-use Rattle.patch.proofs.First.{demand-1}
-use Rattle.patch.proofs.Second.{demand-2}
-use Rattle.patch.proofs.Standing.{summary-opened, fields-after}
-use Rattle.patch.proofs.Third.{length-fits, some-way, site-chosen}
+use Rattle.demands.proofs.First.{demand-1}
+use Rattle.demands.proofs.Second.{demand-2}
+use Rattle.demands.proofs.Standing.{summary-opened, fields-after}
+use Rattle.demands.proofs.Third.{length-fits, some-way, site-chosen}
 use Rattle.printout.specs.Printout.{answerLine, report}
 use Rattle.printout.specs.Reports.{keptRows, doneLines, Reportable}
 

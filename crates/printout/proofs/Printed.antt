@@ -17,10 +17,10 @@ use Rattle.patch.specs.declared.Summarised.{Summarised}
 use Rattle.patch.specs.declared.Summarised.the-variants as Summarises
 use Rattle.patch.specs.Removing.{removeAnswer, removeBytes, removeGives, removalNumber}
 use Rattle.patch.specs.Summing.{summaryGives}
-use Rattle.patch.proofs.Accepting.{remove-accepted}
+use Rattle.demands.proofs.Accepting.{remove-accepted}
 use Rattle.patch.proofs.Answering.{removes}
-use Rattle.patch.proofs.Second.{demand-2}
-use Rattle.patch.proofs.Standing.{summary-opened}
+use Rattle.demands.proofs.Second.{demand-2}
+use Rattle.demands.proofs.Standing.{summary-opened}
 use Rattle.printout.specs.declared.Text.{Text}
 use Rattle.printout.specs.Printout.{answerLine, printout}
 use Rattle.printout.specs.Texts.{textBytes, textOf, held}

@@ -16,8 +16,8 @@ use Rattle.patch.specs.Summing.{summaryGives}
 use Rattle.patch.specs.Removing.{removeAnswer, removeBytes}
 use Rattle.printout.specs.Printout.{line, summaryFields, answerLine, ringLine, rowLine, report, printout}
 use Rattle.patch.proofs.Answering.{removes}
-use Rattle.patch.proofs.Accepting.{remove-accepted}
-use Rattle.patch.proofs.Standing.{summary-opened}
+use Rattle.demands.proofs.Accepting.{remove-accepted}
+use Rattle.demands.proofs.Standing.{summary-opened}
 
 module _ (input : List ℕ) where
   -- the block, the two ends and the output block of the program

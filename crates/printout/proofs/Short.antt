@@ -35,12 +35,12 @@ use Rattle.ring.specs.Ring.{Site, siteOf}
 use Rattle.pieces.specs.Triangulation.{Triangle, v, regionOf, triangles, twoRows, newRows}
 use Rattle.pieces.specs.Best.{chosen}
 use Rattle.patch.specs.Removing.{removeAnswer, removeBytes, Sound}
-use Rattle.patch.specs.Demands.{removeNumbers}
-use Rattle.patch.proofs.Accepting.{remove-accepted}
+use Rattle.demands.specs.Demands.{removeNumbers}
+use Rattle.demands.proofs.Accepting.{remove-accepted}
 use Rattle.patch.proofs.Answering.{removes}
-use Rattle.patch.proofs.First.{demand-1}
+use Rattle.demands.proofs.First.{demand-1}
 use Rattle.patch.proofs.Sites.{site-ends, ring-point}
-use Rattle.patch.proofs.Third.{length-fits}
+use Rattle.demands.proofs.Third.{length-fits}
 use Rattle.printout.specs.Printout.{text, mark, scoreField, octaveField, answerLine, report, printout}
 use Rattle.printout.specs.Texts.{textBytes}
 use Rattle.printout.proofs.Printing.{printed-length, printed-refusal, printed-done}

@@ -20,7 +20,7 @@ use Rattle.patch.specs.declared.Removal.the-variants as Removes
 use Rattle.patch.specs.declared.Removed.{Removed}
 use Rattle.patch.specs.Summing.{summaryGives, summaryNumber}
 use Rattle.patch.specs.Removing.{removeAnswer, removeGives, removalNumber}
-use Rattle.patch.proofs.First.{demand-1, gives-done}
+use Rattle.demands.proofs.First.{demand-1, gives-done}
 use Rattle.sumpnewt.specs.Boundary.{sized, handedOut, pageOf}
 
 -- ---- a number

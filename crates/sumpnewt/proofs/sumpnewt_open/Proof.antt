@@ -3,7 +3,7 @@ use borrow.Author.Needs.{needs}
 use mathlib.Core.Path.{_∙_, ap}
 use Rattle.block.specs.declared.Opened.{Opened}
 use Rattle.block.specs.Answers.{numberOf}
-use Rattle.patch.proofs.First.{demand-1}
+use Rattle.demands.proofs.First.{demand-1}
 use Rattle.sumpnewt.proofs.sumpnewt_open.Statement.{statement}
 use Rattle.sumpnewt.proofs.sumpnewt_open.Tie as tie
 

@@ -17,11 +17,11 @@ use Rattle.block.specs.Layout.{Patch, fieldsOf}
 use Rattle.ring.specs.Ring.{Site, siteOf, smallest, numbersWrong, ringsAlone, orChains, edgeTests}
 use Rattle.ring.proofs.Order.{site-swap, numbers-swap}
 use Rattle.ring.proofs.Smallest.{smallest-in, smallest-le, smallest-is}
 use Rattle.patch.specs.Removing.{removeAnswer, removeBytes, removeGives}
 use Rattle.patch.specs.Flipping.{flip32Answer, flip32Bytes, apexOver, Pair, pairOf, threeRows, patchAfter23, flip23Tests}
 use Rattle.patch.specs.Flipping.{flip23Answer, flip23Bytes}
-use Rattle.patch.specs.Demands.{EitherOrder}
-use Rattle.patch.proofs.First.{gives-done, gives-refused}
+use Rattle.demands.specs.Demands.{EitherOrder}
+use Rattle.demands.proofs.First.{gives-done, gives-refused}
 
 -- ---- the ends
 

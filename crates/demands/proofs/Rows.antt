@@ -36,14 +36,14 @@ use Rattle.pieces.proofs.Worsts.{rows-fractions}
 use Rattle.pieces.proofs.Rings.{way-listed, listed-way}
 use Rattle.pieces.proofs.Across.{those-across, length-across}
 use Rattle.pieces.proofs.Kindred.{kin, piece-same, shut-same, worst-same, rows-same}
 use Rattle.patch.specs.Removing.{blockTests, worstNow, noRoom, noWay, noneBetter, patchAfter, totalDiffers, removalTests}
 use Rattle.patch.specs.Removing.{removeAnswer, Sound}
 use Rattle.patch.specs.Flipping.{flip32Tests, flip32Answer}
-use Rattle.patch.specs.Demands.{SameMesh, AnyRowOrder}
+use Rattle.demands.specs.Demands.{SameMesh, AnyRowOrder}
 use Rattle.patch.proofs.Answering.{same-behind, block-opened, taken}
 use Rattle.patch.proofs.Sites.{opens-rule, sound-site}
-use Rattle.patch.proofs.Third.{length-fits, some-way, site-chosen, total-stays}
-use Rattle.patch.proofs.Standing.{worst-now}
+use Rattle.demands.proofs.Third.{length-fits, some-way, site-chosen, total-stays}
+use Rattle.demands.proofs.Standing.{worst-now}
 
 -- ---- two sites alike: what the answers 15 and 16 go by
 

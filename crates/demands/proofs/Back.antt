@@ -24,17 +24,17 @@ use Rattle.ring.proofs.Smallest.{smallest-le}
 use Rattle.pieces.specs.Triangulation.{side, cut, span, regionOf, tableAfter}
 use Rattle.pieces.specs.Admissible.{admissible}
 use Rattle.pieces.specs.Best.{chosen}
 use Rattle.patch.specs.Removing.{Sound}
 use Rattle.patch.specs.Flipping.{flip32Tests, flip32Answer, flip32Bytes, Pair, pairOf, threeRows, patchAfter23}
 use Rattle.patch.specs.Flipping.{flip23Answer, flip23Bytes}
-use Rattle.patch.specs.Demands.{Way, Flipped, BroughtBack}
+use Rattle.demands.specs.Demands.{Way, Flipped, BroughtBack}
 use Rattle.patch.proofs.Answering.{flips-23, flip32-left}
 use Rattle.patch.proofs.Sites.{opens-rule}
-use Rattle.patch.proofs.Written.{patch-is}
-use Rattle.patch.proofs.Third.{way-there, site-chosen}
-use Rattle.patch.proofs.Facing.{Facing}
-use Rattle.patch.proofs.Accepting.{flips-facing, flip23-accepted, flip32-accepted}
-use Rattle.patch.proofs.Threes.{rowsRound, three-closed, ring-three, three-pass, three-table, one-tree}
+use Rattle.demands.proofs.Written.{patch-is}
+use Rattle.demands.proofs.Third.{way-there, site-chosen}
+use Rattle.demands.proofs.Facing.{Facing}
+use Rattle.demands.proofs.Accepting.{flips-facing, flip23-accepted, flip32-accepted}
+use Rattle.demands.proofs.Threes.{rowsRound, three-closed, ring-three, three-pass, three-table, one-tree}
 
 -- a table is what goes and what stays
 same-parts : (p : Row → Bool) (rows : List Row) → SameTetrahedra (those (λ row. not (p row)) rows ++ those p rows) rows

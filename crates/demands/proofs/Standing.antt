@@ -18,14 +18,14 @@ use Rattle.pieces.specs.Triangulation.{regionOf, tableAfter}
 use Rattle.pieces.specs.Best.{chosen}
 use Rattle.pieces.proofs.Rings.{after-length}
 use Rattle.tally.specs.Summing.{qualities, summaryOf, worstOfPatch}
 use Rattle.patch.specs.declared.Summarised.the-variants.{Summary as Summed}
 use Rattle.patch.specs.Summing.{summaryGives}
 use Rattle.patch.specs.Removing.{worstNow, patchAfter, removeAnswer, removeBytes, Sound}
 use Rattle.patch.proofs.Answering.{removes}
 use Rattle.patch.proofs.Sites.{some-removed}
-use Rattle.patch.proofs.Written.{patch-is}
-use Rattle.patch.proofs.Third.{length-fits, some-way, site-chosen}
-use Rattle.patch.proofs.Accepting.{remove-accepted}
+use Rattle.demands.proofs.Written.{patch-is}
+use Rattle.demands.proofs.Third.{length-fits, some-way, site-chosen}
+use Rattle.demands.proofs.Accepting.{remove-accepted}
 
 -- ---- the summary
 

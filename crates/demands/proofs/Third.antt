@@ -27,12 +27,12 @@ use Rattle.pieces.specs.Best.{worstOfWay, ringWays, chosen}
 use Rattle.pieces.proofs.Worsts.{row-fraction, worst-over}
 use Rattle.pieces.proofs.Volume.{table-total}
 use Rattle.pieces.proofs.Rings.{BestWay, way-listed, listed-way, found-way, ring-chosen, worst-row, after-length}
 use Rattle.patch.specs.Removing.{blockTests, worstNow, noRoom, noWay, noneBetter, patchAfter, totalDiffers, removalTests}
 use Rattle.patch.specs.Removing.{removeAnswer, removeBytes, Sound}
-use Rattle.patch.specs.Demands.{Way, Premises, NoneBetter, Demand3}
+use Rattle.demands.specs.Demands.{Way, Premises, NoneBetter, Demand3}
 use Rattle.patch.proofs.Answering.{unlike, both-passed, reached, remove-left}
 use Rattle.patch.proofs.Sites.{sound-site}
-use Rattle.patch.proofs.Written.{rows-read}
+use Rattle.demands.proofs.Written.{rows-read}
 
 -- ---- law 5: 17 never occurs
 

@@ -7,12 +7,12 @@ use Rattle.block.specs.Layout.{fieldsOf}
 use Rattle.block.proofs.Trip.{read-written, written-read, opens-written, seal-opens}
 use Rattle.ring.specs.Ring.{siteOf, ringWith}
 use Rattle.tally.specs.Summing.{worstOfPatch}
 use Rattle.patch.specs.declared.Removal.the-variants.{Done}
 use Rattle.patch.specs.Removing.{removeAnswer, removeBytes, removeGives}
-use Rattle.patch.specs.Demands.{Demand2}
-use Rattle.patch.proofs.First.{gives-done}
-use Rattle.patch.proofs.Accepting.{remove-accepted, flip32-accepted, flip23-accepted}
-use Rattle.patch.proofs.Standing.{summary-opened, fields-after}
+use Rattle.demands.specs.Demands.{Demand2}
+use Rattle.demands.proofs.First.{gives-done}
+use Rattle.demands.proofs.Accepting.{remove-accepted, flip32-accepted, flip23-accepted}
+use Rattle.demands.proofs.Standing.{summary-opened, fields-after}
 
 -- the page row's second size is that of the worst row of the written block
 page-given : (block out : List ℕ) (e f : ℕ) → removeAnswer block out e f ≡ 0

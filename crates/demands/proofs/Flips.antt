@@ -30,13 +30,13 @@ use Rattle.ring.proofs.Linking.{link-is}
 use Rattle.ring.proofs.Smallest.{smallest-same}
 use Rattle.ring.proofs.Order.{row-across}
 use Rattle.pieces.proofs.Across.{those-across, length-across}
 use Rattle.patch.specs.Flipping.{apexOver, Pair, pairOf, threeRows, patchAfter23, flip23Tests, flip23Answer}
-use Rattle.patch.specs.Demands.{SameMesh, AnyRowOrder23}
+use Rattle.demands.specs.Demands.{SameMesh, AnyRowOrder23}
 use Rattle.patch.proofs.Answering.{same-behind, block-opened, flips-23}
 use Rattle.patch.proofs.Sites.{opens-rule}
-use Rattle.patch.proofs.Pairs.{Over}
-use Rattle.patch.proofs.Rows.{other-way}
-use Rattle.patch.proofs.Facing.{Facing, face-apart, all-over, facing}
+use Rattle.demands.proofs.Pairs.{Over}
+use Rattle.demands.proofs.Rows.{other-way}
+use Rattle.demands.proofs.Facing.{Facing, face-apart, all-over, facing}
 
 -- the apex of a row over a face is that of the row, evenly rearranged
 apex-even : {count its : ℕ} {face : List ℕ} {u : ℕ} {row other t s : Row} → Over count face u row t → Over its face u other s

@@ -17,14 +17,14 @@ use Rattle.pieces.specs.Triangulation.{newRows, tableAfter, rowsAfter}
 use Rattle.pieces.specs.Admissible.{admissible}
 use Rattle.pieces.specs.Best.{chosen}
 use Rattle.pieces.proofs.Rings.{after-length, after-rows}
 use Rattle.patch.specs.Removing.{noRoom, noWay, noneBetter, patchAfter, totalDiffers, removalTests, removeAnswer, removeBytes, Sound}
 use Rattle.patch.specs.Flipping.{flip32Answer, flip32Bytes, pairOf, threeRows, patchAfter23, flip23Answer, flip23Bytes}
-use Rattle.patch.specs.Demands.{Accepted, Room}
+use Rattle.demands.specs.Demands.{Accepted, Room}
 use Rattle.patch.proofs.Answering.{Flips23, removes, remove-left, flips-32, flips-23}
-use Rattle.patch.proofs.Facing.{Facing, face-apart, facing, flipped-total}
+use Rattle.demands.proofs.Facing.{Facing, face-apart, facing, flipped-total}
 use Rattle.patch.proofs.Sites.{opens-rule, sound-site}
-use Rattle.patch.proofs.Written.{accepted}
-use Rattle.patch.proofs.Third.{site-total, length-fits, length-passes, some-way, site-chosen}
+use Rattle.demands.proofs.Written.{accepted}
+use Rattle.demands.proofs.Third.{site-total, length-fits, length-passes, some-way, site-chosen}
 
 module _ (block : List ℕ) (e f : ℕ) (sound : Sound block e f) where
   abbrev site : Site

@@ -12,12 +12,12 @@ use Rattle.block.specs.Answers.{bodyTests, written, openAnswer, openGives, numb
 use Rattle.block.proofs.Refusals.{on-list, number-of, open-list, seal-list, seal-keeps}
 use Rattle.ring.specs.Ring.{siteOf, edgeTests, ringWith}
 use Rattle.tally.specs.Summing.{worstOfPatch}
 use Rattle.patch.specs.declared.Removal.the-variants.{Done, Refused}
 use Rattle.patch.specs.declared.Removed.{Removed}
 use Rattle.patch.specs.Summing.{summaryGives, summaryNumber}
 use Rattle.patch.specs.Removing.{blockTests, patchAfter, removalTests, removeAnswer, removeBytes, removeGives, removalNumber}
 use Rattle.patch.specs.Flipping.{flip32Tests, flip32Answer, flip32Bytes, flip23Tests, flip23Answer, flip23Bytes}
-use Rattle.patch.specs.Demands.{removeNumbers, flip32Numbers, flip23Numbers, Demand1}
+use Rattle.demands.specs.Demands.{removeNumbers, flip32Numbers, flip23Numbers, Demand1}
 
 -- any number but 0 leaves the output as it came
 pub kept-out : (answer : ℕ) (bytes out : List ℕ) → (answer ≡ 0 → ⊥) → written answer bytes out ≡ out

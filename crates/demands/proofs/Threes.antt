@@ -29,7 +29,7 @@ use Rattle.ring.proofs.Closing.{closes-i}
 use Rattle.ring.proofs.Smallest.{smallest-is}
 use Rattle.pieces.specs.Triangulation.{Tri, side, cut, span, triangles, twoRows, newRows, tableAfter}
 use Rattle.pieces.proofs.Ways.{span-over}
-use Rattle.patch.proofs.Orders.{ThreeApart, apart-three}
+use Rattle.demands.proofs.Orders.{ThreeApart, apart-three}
 
 -- ---- three links
 

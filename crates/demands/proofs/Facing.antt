@@ -25,8 +25,8 @@ use Rattle.block.specs.Layout.{Patch}
 use Rattle.ring.specs.Ring.{smallest, numbersWrong}
 use Rattle.ring.proofs.Smallest.{smallest-in}
 use Rattle.pieces.proofs.Total.{total-append}
 use Rattle.patch.specs.Flipping.{Pair, pairOf, threeRows, patchAfter23}
-use Rattle.patch.proofs.Pairs.{Over, AllOver, row-over, the-two, both-over, b-last, upA}
+use Rattle.demands.proofs.Pairs.{Over, AllOver, row-over, the-two, both-over, b-last, upA}
 
 -- With t = (a,u,v,w) an even arrangement of a's row, b's row is (u,v,w,b).
 pub record Facing (count : ℕ) (pair : Pair) (face : List ℕ) : Type 0 where

@@ -15,7 +15,7 @@ use Rattle.block.specs.Layout.{Patch, maxPoints, maxRows, fieldsOf, bodyOf, sum
 use Rattle.block.specs.Answers.{openAnswer}
 use Rattle.block.proofs.Right.{right-block, opens}
 use Rattle.block.proofs.Written.{body-read, bytes-right, points-counted}
-use Rattle.patch.specs.Demands.{Accepted}
+use Rattle.demands.specs.Demands.{Accepted}
 
 -- a block that opens holds at most 64 points
 few-points : (block : List ℕ) → openAnswer block ≡ 0 → length (fieldsOf block .points) ≤ maxPoints

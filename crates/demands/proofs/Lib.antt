@@ -1,0 +1,14 @@
+pub mod First
+pub mod Written
+pub mod Third
+pub mod Pairs
+pub mod Facing
+pub mod Accepting
+pub mod Standing
+pub mod Second
+pub mod Orders
+pub mod Threes
+pub mod Back
+pub mod Rows
+pub mod Flips
+pub mod Shared

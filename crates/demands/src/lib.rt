@@ -1,0 +1,1 @@
+// What the calls promise, as laws of their definitions; nothing here runs.
