@@ -58,7 +58,8 @@ module _ (block : List ℕ) where
       found-ring found i = rw (lt-ltb e f order) (ap (λ (found : Found). found .ring) i)
 
       pub closed : (answer : Answer) (n : ℕ) → answer ≡ answerOf (openAnswer block) → answer ≡ Refused n → ringWith [] ≡ ringAt block e f
-      closed answer n i j = found-ring (foundNone answer) (edge-blocked ringsAlone block block e f answer n (i ∙ ap answerOf (sym own-answer)) j)
+      closed answer n i j =
+          found-ring (foundNone answer) (edge-blocked ringsAlone block block e f answer n (i ∙ ap answerOf (sym own-answer)) j)
 
       module _ (answer : Answer) (i : answer ≡ answerOf (openAnswer block)) (j : answer ≡ Done) where
         blocks : answer ≡ answerOf (firstRefusal (blockTests block block))
@@ -71,16 +72,21 @@ module _ (block : List ℕ) where
         over h = go (ltb e (pointCount block)) refl
           where
             go : (b : Bool) → ltb e (pointCount block) ≡ b → ringWith [] ≡ ringAt block e f
-            go true w = found-ring (foundNone (Refused 9)) (edge-9-second ringsAlone block block e f answer blocks j (ltb-true e (pointCount block) w) h)
-            go false w = found-ring (foundNone (Refused 9)) (edge-9-first ringsAlone block block e f answer blocks j (ltb-false e (pointCount block) w))
+            go true w =
+                found-ring (foundNone (Refused 9))
+                (edge-9-second ringsAlone block block e f answer blocks j (ltb-true e (pointCount block) w) h)
+            go false w =
+                found-ring (foundNone (Refused 9))
+                (edge-9-first ringsAlone block block e f answer blocks j (ltb-false e (pointCount block) w))
 
         pub tabled : Table (tableOf block) (rowCount block) e f
         tabled = edge-table ringsAlone block block e f answer blocks j e f (omega arith) (omega arith) (λ q. omega arith)
 
-        pub ring-found : f < pointCount block → (found : Found) → found ≡ foundOf ringsAlone (edgeIn (rowsIn (tableOf block) (rowCount block)) e f)
-            → found .ring ≡ ringAt block e f
+        pub ring-found : f < pointCount block → (found : Found)
+            → found ≡ foundOf ringsAlone (edgeIn (rowsIn (tableOf block) (rowCount block)) e f) → found .ring ≡ ringAt block e f
         ring-found h found g =
-            found-ring found (edge-ring ringsAlone block block e f answer blocks j e f (omega arith) (omega arith) (omega arith) h (λ q. omega arith) found g)
+            found-ring found
+            (edge-ring ringsAlone block block e f answer blocks j e f (omega arith) (omega arith) (omega arith) h (λ q. omega arith) found g)
 
     -- ---- the table of its pieces
 
@@ -132,9 +138,12 @@ module _ (block : List ℕ) where
       its = siteOf (fieldsOf block) e f
 
       own : siteIn (coordinatesOf block) (pointCount block) (tableOf block) (rowCount block) e f ≡ siteOf (fieldsOf block) e f
-      own = let order = in-order in own-site ringsAlone block block e f (edgeFound ringsAlone block block e f) refl done e f (omega arith) (omega arith)
+      own =
+          let order = in-order in
+          own-site ringsAlone block block e f (edgeFound ringsAlone block block e f) refl done e f (omega arith) (omega arith)
 
-      module _ (table : Pieces) (keeps : Keeps (siteIn (coordinatesOf block) (pointCount block) (tableOf block) (rowCount block) e f) table) where
+      module _ (table : Pieces)
+          (keeps : Keeps (siteIn (coordinatesOf block) (pointCount block) (tableOf block) (rowCount block) e f) table) where
         pub ring-length : (minRing ≤ table .m) × (table .m ≤ maxRing)
         ring-length = (rw (keeps .length) (ready .long), rw (keeps .length) (ready .short))
 

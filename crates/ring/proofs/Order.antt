@@ -21,7 +21,8 @@ use Rattle.mesh.proofs.Evenly.{even-holds}
 use Rattle.mesh.proofs.Places.{even-refl}
 use Rattle.mesh.proofs.Alike.{same-keeps}
 use Rattle.block.specs.Layout.{Patch}
-use Rattle.ring.specs.Ring.{Link, link, next, walk, circle, closes, starts, ends, smallest, allClose, circleOf, heads, follow, chainOf}
+use Rattle.ring.specs.Ring.{Link, link, next, walk, circle, closes, starts, ends, smallest}
+use Rattle.ring.specs.Ring.{allClose, circleOf, heads, follow, chainOf}
 use Rattle.ring.specs.Ring.{siteOf, numbersWrong, whole, linkOpen, manyCircles}
 use Rattle.ring.specs.Found.{linksOf, ringTests, foundOf}
 use Rattle.ring.proofs.Linking.{starts-different, link-even}
@@ -129,7 +130,8 @@ module _ (ls ks : List Link) (once : T (different (starts ls))) (once' : T (diff
       onward : ℕ → (ℕ → List ℕ) → Option ℕ → List ℕ
       onward here rest o = elim o [ none ↦ here ∷ [] | some there ↦ here ∷ rest there ]
 
-      go : (o : Option ℕ) → ((there : ℕ) → follow n ls there ≡ follow n ks there) → onward here (follow n ls) o ≡ onward here (follow n ks) o
+      go : (o : Option ℕ) → ((there : ℕ) → follow n ls there ≡ follow n ks there)
+          → onward here (follow n ls) o ≡ onward here (follow n ks) o
       go none f = refl
       go (some there) f = ap (λ ps. here ∷ ps) (f there)
 

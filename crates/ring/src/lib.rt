@@ -246,7 +246,7 @@ fn sized(trail: Trail) -> Found
     }
 }
 
-// The ring round the edge a, b in the first n rows of a table, or, where chains are taken, the open chain; or the refusal: 10, 11, 12 or 13.
+// The ring round the edge a, b in the first n rows of a table or, where chains are taken, the chain; or the refusal: 10, 11, 12 or 13.
 pub fn find(table: &[u8], n: usize, a: u8, b: u8, chains: bool) -> Found
     requires { ⌜ Table (now table) n a b ⌝ }
     ensures { λ r. ⌜ r ≡ foundOf chains (edgeIn (rowsIn (now (table .entry)) n) a b) ⌝ }

@@ -97,8 +97,8 @@ returns-5 : tie.Need-returns-5
 returns-5 c =
     let w = c .before .before .before .before .before .before in
     c .refused4 .ensures
-    ∙ gives-broken (gone w) (c .before .before .before .before .before .if2 .left) (not-false _ (c .before .before .before .before .if4 .left))
-    (c .before .if5 .taken)
+    ∙ gives-broken (gone w) (c .before .before .before .before .before .if2 .left)
+    (not-false _ (c .before .before .before .before .if4 .left)) (c .before .if5 .taken)
 
 sized-requires-2 : tie.Need-sized-requires-2
 sized-requires-2 c κs = search needs
@@ -107,8 +107,8 @@ returns-6 : tie.Need-returns-6
 returns-6 c =
     let w = c .before .before .before .before .before .before in
     c .sized2 .ensures
-    ∙ gives-chain (gone w) (c .before .before .before .before .before .if2 .left) (not-false _ (c .before .before .before .before .if4 .left))
-    (omega (arith, c .before .if5 .left))
+    ∙ gives-chain (gone w) (c .before .before .before .before .before .if2 .left)
+    (not-false _ (c .before .before .before .before .if4 .left)) (omega (arith, c .before .if5 .left))
 
 pub find-spec : {M : Type 1} → statement M
 find-spec =
