@@ -154,7 +154,7 @@ numbersWrong count ns = not (every (λ n. ltb n count) ns && different ns)
 abbrev pub edgeMissing : Site → Bool
 edgeMissing site = eqb (length (site .removed)) 0
 
--- the ring, or the chain, goes by every link
+-- the ring, or the chain, goes by every link, so there is no other circle and no other chain
 unfoldable pub whole : Site → Bool
 whole site = every (has (site .ring)) (starts (site .links))
 
