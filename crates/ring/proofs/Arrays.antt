@@ -51,12 +51,6 @@ in-added links v w s e =
     let back : at n ≡ (v, w) = rw (getD-set-same (links .starts) n v 0 s, getD-set-same (links .ends) n w 0 e) in
     map-numbers-append at n 1 ∙ rw (front, back)
 
-pub starts-drop : (links : Links) (i : ℕ) → i < links .n
-    → drop i (starts (linksIn links)) ≡ getD (links .starts) i 0 ∷ drop (suc i) (starts (linksIn links))
-starts-drop links i h =
-    drop-cons (starts (linksIn links)) i 0 (omega (arith, starts-length links)) ∙ ap (λ n. n ∷ drop (suc i) (starts (linksIn links)))
-    (starts-at links i h)
-
 pub ends-drop : (links : Links) (i : ℕ) → i < links .n
     → drop i (ends (linksIn links)) ≡ getD (links .ends) i 0 ∷ drop (suc i) (ends (linksIn links))
 ends-drop links i h =

@@ -1,17 +1,17 @@
 -- What the walk from the first point tells: the first of 10 to 13 that is given, or the ring or chain.
 -- Idea: a walk that closes by as many points as there are links has met them all; one that ends has met them all if it has a point more.
-use Prim.Native.Nat.{ℕ, suc, _≤_, _<_, min, max}
-use mathlib.Core.Bool.{Bool, true, false, cond, not, _&&_, _||_}
+use Prim.Native.Nat.{ℕ, _≤_, _<_, min, max}
+use mathlib.Core.Bool.{Bool, true, false, cond, not}
 use mathlib.Core.List.{List, [], _∷_, List·Memᴰ, List·Memᴰ·head, List·Memᴰ·not-nil}
-use mathlib.Core.Option.{Option, none, some, Option·getD}
+use mathlib.Core.Option.{Option, none, some}
 use mathlib.Core.Path.{_≡_, refl, sym, ap, _∙_, subst}
 use native.Mathlib.Omega.{arith}
 use borrow.Author.Tests.{eq-eqb, ne-eqb}
-use lib.Dec.{T, ltb, not-T}
-use lib.ListN.{length, take, length-map}
+use lib.Dec.{T, not-T}
+use lib.ListN.{length, length-map}
 use lib.Seq.{length-take-le}
 use Rattle.lists.specs.Lists.{every, has, different}
-use Rattle.lists.proofs.Tests.{yes-is, no-is, is-yes}
+use Rattle.lists.proofs.Tests.{yes-is, no-is}
 use Rattle.lists.proofs.Lists.{every-at, every-i}
 use Rattle.lists.proofs.Numbers.{has-i, has-e, no-more, no-fewer}
 use Rattle.lists.proofs.Options.{some-is, none-not}
@@ -19,10 +19,9 @@ use Rattle.mesh.specs.Mesh.{rowsIn, keepsMeshRule}
 use Rattle.block.specs.Layout.{Patch}
 use Rattle.block.specs.Answers.{firstRefusal}
 use Rattle.ring.specs.declared.Links.{Links}
-use Rattle.ring.specs.declared.Found.{Found}
 use Rattle.ring.specs.declared.Trail.{Trail}
-use Rattle.ring.specs.Ring.{Link, link, circle, closes, allClose, starts, ends, smallest, circleOf, heads, follow, chainOf, Site}
-use Rattle.ring.specs.Ring.{siteOf, minRing, maxRing, edgeMissing, whole, ringsAlone, orChains, linkOpen, manyCircles, lengthWrong}
+use Rattle.ring.specs.Ring.{Link, link, circle, closes, allClose, starts, ends, circleOf, heads, follow, chainOf, Site}
+use Rattle.ring.specs.Ring.{siteOf, edgeMissing, whole, ringsAlone, orChains, linkOpen, manyCircles, lengthWrong}
 use Rattle.ring.specs.Found.{foundOf, ringTests, refusedWith, sizedOf, edgeIn, linksOf, linksIn, wentBy, walked, StartsAt, Table}
 use Rattle.ring.proofs.Arrays.{in-length}
 use Rattle.ring.proofs.Linking.{starts-different, ends-different}

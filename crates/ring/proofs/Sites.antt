@@ -1,7 +1,7 @@
 -- Law 10 of an edge in its patch: answers 9 to 12 not given, the removed rows' links are those of the ring or chain, and its points fit.
 use Prim.Native.Nat.{ℕ, zero, suc, _+_, _≤_, _<_, min, max}
 use mathlib.Core.Bool.{Bool, true, false, cond, not, _&&_, _||_}
-use mathlib.Core.List.{List, [], _∷_, List·Memᴰ, List·Memᴰ·head, List·Memᴰ·tail, Memᴰ·of-map}
+use mathlib.Core.List.{List, [], _∷_, List·Memᴰ, List·Memᴰ·head, List·Memᴰ·tail}
 use mathlib.Core.Path.{_≡_, refl, sym, _∙_}
 use native.Mathlib.Decide.{decLt}
 use native.Mathlib.Omega.{arith}
@@ -13,7 +13,6 @@ use Rattle.lists.proofs.Tests.{and-l, and-r, is-yes}
 use Rattle.lists.proofs.Lists.{every-at}
 use Rattle.lists.proofs.Numbers.{different-head}
 use Rattle.lists.proofs.Places.{in-at}
-use Rattle.mesh.specs.declared.Row.{Row}
 use Rattle.mesh.specs.Mesh.{keepsMeshRule}
 use Rattle.block.specs.Layout.{Patch}
 use Rattle.block.specs.Answers.{firstRefusal}
@@ -114,12 +113,6 @@ module _ (count : ℕ) (patch : Patch) (e f : ℕ) (apart : e ≡ f
           → GoesRound (site .links) closed (cond closed (circleOf (site .links)) (chainOf (site .links)))
       go true c h = circle-round (site .links) some-link (is-yes _ c) single h
       go false c h = chain-round (site .links) single single-end (open-head (site .links) single single-end c .1) h
-
-  -- a link is a removed row's
-  pub site-link : {l : Link} → List·Memᴰ l (site .links)
-      → (row : Row) × List·Memᴰ row (site .removed) × (link (min e f) (max e f) row ≡ l)
-  unfolding siteOf
-  site-link m = Memᴰ·of-map (link (min e f) (max e f)) (site .removed) m
 
   link-points : {l : Link} → List·Memᴰ l (site .links) → LinkFits count (min e f) (max e f) l
   unfolding siteOf
