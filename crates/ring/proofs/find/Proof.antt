@@ -6,13 +6,6 @@ use borrow.Author.Tests.{not-true, not-false}
 use Rattle.ring.proofs.Finding.{Gathered, Gone, gives-10, gives-12, gives-ring, gives-alone, gives-broken, gives-chain}
 use Rattle.ring.proofs.find.Statement.{statement}
 use Rattle.ring.proofs.find.Tie as tie
-use Rattle.ring.proofs.find.Reads as reads
-use Rattle.ring.proofs.find.Lts as lts
-use Rattle.ring.proofs.first_point.Reads as first-point-reads
-use Rattle.ring.proofs.gather.Reads as gather-reads
-use Rattle.ring.proofs.refused.Reads as refused-reads
-use Rattle.ring.proofs.sized.Reads as sized-reads
-use Rattle.ring.proofs.walk.Reads as walk-reads
 
 gather-requires : tie.Need-gather-requires
 gather-requires c κs = search needs
@@ -37,19 +30,7 @@ walk-requires c κs = search needs
 
 -- after the walk
 abbrev At-walk : Type 0
-At-walk =
-    lts.After-walk (
-      gather-reads.Asked,
-      gather-reads.Learnt,
-      refused-reads.Asked,
-      refused-reads.Learnt,
-      first-point-reads.Asked,
-      first-point-reads.Learnt,
-      walk-reads.Asked,
-      walk-reads.Learnt,
-      sized-reads.Asked,
-      sized-reads.Learnt,
-    ) reads.Pre reads.Post
+At-walk = tie.After-walk
 
 abbrev gone : (w : At-walk) → let args = w .before .before .before .before .before .before .args in
     Gone (args .table .now) (args .n) (args .a) (args .b)

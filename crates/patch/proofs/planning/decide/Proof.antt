@@ -14,38 +14,19 @@ use Rattle.patch.proofs.Decided.{ring-long, crossed, flat-is, gone-fit,
 use Rattle.patch.proofs.Decided.{gives-19, gives-14, gives-15, gives-16, gives-17, gives-0}
 use Rattle.patch.proofs.planning.decide.Statement.{statement}
 use Rattle.patch.proofs.planning.decide.Tie as tie
-use Rattle.patch.proofs.planning.decide.Reads as reads
-use Rattle.patch.proofs.planning.decide.Lts as lts
-use Rattle.measure.proofs.Quality.worse.Reads as worse-reads
-use Rattle.patch.proofs.carrying.carry_out.Reads as carry-out-reads
-use Rattle.patch.proofs.planning.differ.Reads as differ-reads
-use Rattle.patch.proofs.planning.going.Reads as going-reads
-use Rattle.patch.proofs.planning.no_plan.Reads as no-plan-reads
-use Rattle.patch.proofs.planning.not_flat.Reads as not-flat-reads
-use Rattle.tally.proofs.total_volume.Reads as total-volume-reads
-use Rattle.tally.proofs.worst_round.Reads as worst-round-reads
+
+-- whether the chain is flat, as it is told
+told : (k : tie.After-not-flat) → let args = k .before .before .before .args in
+    notFlat (siteIn (args .coordinates .now) (args .count) (args .table .now) (args .n) (args .a) (args .b)) ≡ k .not-flat .result
+told k =
+    let start = k .before .before .before in
+    let args = start .args in
+    sym (k .not-flat .ensures
+    ∙ flat-is (args .coordinates .now) (args .count) (args .table .now) (args .n) (args .a) (args .b) (start .pre))
 
 -- behind answers 19 and 14
 abbrev At-room : Type 0
-At-room =
-    lts.Else2 (
-      not-flat-reads.Asked,
-      not-flat-reads.Learnt,
-      no-plan-reads.Asked,
-      no-plan-reads.Learnt,
-      going-reads.Asked,
-      going-reads.Learnt,
-      carry-out-reads.Asked,
-      carry-out-reads.Learnt,
-      worst-round-reads.Asked,
-      worst-round-reads.Learnt,
-      worse-reads.Asked,
-      worse-reads.Learnt,
-      total-volume-reads.Asked,
-      total-volume-reads.Learnt,
-      differ-reads.Asked,
-      differ-reads.Learnt,
-    ) reads.Pre reads.Post
+At-room = tie.Else2
 
 abbrev siteAt : At-room → Site
 siteAt k =
@@ -53,13 +34,7 @@ siteAt k =
     siteIn (args .coordinates .now) (args .count) (args .table .now) (args .n) (args .a) (args .b)
 
 level : (k : At-room) → notFlat (siteAt k) ≡ false
-level k =
-    let judged = k .before .before .before .before in
-    let start = judged .before .before .before in
-    let args = start .args in
-    sym (judged .not-flat .ensures
-    ∙ flat-is (args .coordinates .now) (args .count) (args .table .now) (args .n) (args .a) (args .b) (start .pre))
-    ∙ k .before .before .before .if1 .left
+level k = told (k .before .before .before .before) ∙ k .before .before .before .if1 .left
 
 room : (k : At-room) → rowsAfter (siteAt k) ≤ maxRows
 room k =
@@ -85,9 +60,7 @@ returns c =
     let args = start .args in
     c .no-plan .ensures
     ∙ gives-19 (args .coordinates .now) (args .count) (args .table .now) (args .n) (args .a) (args .b) (start .pre)
-    (sym (judged .not-flat .ensures
-    ∙ flat-is (args .coordinates .now) (args .count) (args .table .now) (args .n) (args .a) (args .b) (start .pre))
-    ∙ c .before .if1 .taken)
+    (told judged ∙ c .before .if1 .taken)
 
 cast-m : tie.Need-cast-m
 cast-m c = search needs
@@ -127,10 +100,7 @@ returns-2 c =
     let args = start .args in
     c .no-plan2 .ensures
     ∙ gives-14 (args .coordinates .now) (args .count) (args .table .now) (args .n) (args .a) (args .b) (start .pre)
-    (sym (judged .not-flat .ensures
-    ∙ flat-is (args .coordinates .now) (args .count) (args .table .now) (args .n) (args .a) (args .b) (start .pre))
-    ∙ gone .before .before .if1 .left)
-    _ (gone .going .ensures) (c .before .if2 .taken)
+    (told judged ∙ gone .before .before .if1 .left) _ (gone .going .ensures) (c .before .if2 .taken)
 
 carry-out-requires : tie.Need-carry-out-requires
 carry-out-requires c κs = (c .before .before .before .before .before .before .before .pre, room c)
