@@ -4,7 +4,7 @@ use compare::gen::cases;
 use compare::tally::{Counts, Tally};
 use std::sync::LazyLock;
 
-static TALLY: LazyLock<Tally> = LazyLock::new(|| Tally::of(cases(1, 24_000)));
+static TALLY: LazyLock<Tally> = LazyLock::new(|| Tally::of(cases(1, 28_000)));
 
 /// The answers each call can get.
 const POSSIBLE: [(&str, &[usize]); 8] = [
@@ -49,7 +49,7 @@ fn rings_of_every_length_get_every_outcome() {
     for (m, counts) in &TALLY.rings {
         let name = format!("m = {m}");
         match m {
-            3 | 4 => holds(&name, counts, &[0, 15, 16], 80),
+            3 | 4 => holds(&name, counts, &[0, 15, 16], 100),
             5..=10 => holds(&name, counts, &[0, 14, 15, 16], 80),
             _ => holds(&name, counts, &[13], 100),
         }

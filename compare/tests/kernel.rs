@@ -20,7 +20,7 @@ mod held {
     use compare::model::{open, Call, Outcome};
 
     /// Generated cases of the gate; `hold` takes any number.
-    const CASES: u64 = 24_000;
+    const CASES: u64 = 36_000;
     /// More than a block and its output together.
     const LENGTHS: usize = 1_100;
 
@@ -86,7 +86,7 @@ mod held {
 
     #[test]
     fn on_generated_cases() {
-        Held::of(cases(1, CASES).map(|case| case.call)).expect(20_000);
+        Held::of(cases(1, CASES).map(|case| case.call)).expect(30_000);
     }
 
     #[test]
