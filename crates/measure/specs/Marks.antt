@@ -1,5 +1,5 @@
--- Document 01, "Score and badness": score, badness, octave and their marks.
-use Prim.Native.Nat.{ℕ, _*_, _^_}
+-- Requirement §4 and §5: score, badness, octave and their marks.
+use Prim.Native.Nat.{ℕ, _*_, _^_, min}
 use mathlib.Core.Bool.{cond}
 use mathlib.Core.List.{List, map}
 use mathlib.Core.Option.{none, some}
@@ -25,6 +25,10 @@ lowestScore = 0
 -- the end score 1000
 abbrev pub highestScore : ℕ
 highestScore = 1000
+
+-- a score is a whole number from 0 to 1000: n, or the highest for whatever is over it
+abbrev pub scoreAt : ℕ → Score
+scoreAt n = record { value = min n highestScore }
 
 -- 10^9: the score n stands for the quality n³/10^9
 abbrev pub scoreFactor : ℕ

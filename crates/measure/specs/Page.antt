@@ -1,4 +1,4 @@
--- Document 01, "Quality": what the page shows.
+-- Requirement §4.4 and §4.5: what the page shows.
 use Prim.Native.Nat.{ℕ, _<_, _^_}
 use mathlib.Core.Bool.{false}
 use lib.IntN.{pos}

@@ -4,7 +4,7 @@ ghost use mathlib.Core.Bool.{cond};
 ghost use mathlib.Core.Path.{_≡_};
 ghost use Prim.Native.Nat.{_*_, _^_, _≤_};
 ghost use Rattle.lists.specs.Lists.{largest};
-ghost use Rattle.measure.specs.Marks.{badness, highestScore, octaveOf, score, scoreFactor};
+ghost use Rattle.measure.specs.Marks.{badness, highestScore, octaveOf, score, scoreAt, scoreFactor};
 use crate::Badness;
 use crate::Kind;
 use crate::Octave;
@@ -15,6 +15,16 @@ impl Score {
     pub const LOWEST: Score = Score { value: 0 };
 
     pub const HIGHEST: Score = Score { value: 1000 };
+
+    // The score n; the highest for whatever is over it.
+    pub fn of(n: u16) -> Score
+        ensures { λ r. ⌜ r ≡ scoreAt n ⌝ }
+    {
+        if Score::HIGHEST.value < n {
+            return Score::HIGHEST;
+        }
+        Score { value: n }
+    }
 
     pub fn value(self) -> u16
         ensures { λ r. ⌜ r ≡ self .value ⌝ }
@@ -58,9 +68,7 @@ impl Quality {
     {
         let kind = self.kind;
         match kind {
-            Kind::Upright => Score {
-                value: score_of(self.num, self.den),
-            },
+            Kind::Upright => Score::of(score_of(self.num, self.den)),
             Kind::Flat => Score::LOWEST,
             Kind::Inverted => Score::LOWEST,
         }

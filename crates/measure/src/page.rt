@@ -31,7 +31,7 @@ impl Quality {
 
 impl Shown {
     // The size with its sign.
-    fn signed(self) -> f64
+    pub fn signed(self) -> f64
         ensures { λ r. ⌜ r ≡ signedSize self ⌝ }
     {
         match self {

@@ -1,0 +1,20 @@
+-- `Score::of` is `scoreAt`: the code's test tells which of the two is the smaller.
+use Prim.Native.Nat.{min}
+use mathlib.Core.Path.{_≡_, ap}
+use native.Mathlib.Omega.{arith}
+use Rattle.measure.specs.Marks.{highestScore}
+use Rattle.measure.proofs.Score.of.Statement.{statement}
+use Rattle.measure.proofs.Score.of.Tie as tie
+
+returns : tie.Need-returns
+returns c =
+    let e : highestScore ≡ min (c .before .before .args .n) highestScore = omega (arith, c .if1 .taken) in
+    ap (λ n. record { value = n }) e
+
+returns-2 : tie.Need-returns-2
+returns-2 c =
+    let e : c .before .before .args .n ≡ min (c .before .before .args .n) highestScore = omega (arith, c .if1 .left) in
+    ap (λ n. record { value = n }) e
+
+pub of-spec : {M : Type 1} → statement M
+of-spec = tie.close (tie.spec returns returns-2)
