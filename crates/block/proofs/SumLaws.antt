@@ -1,4 +1,4 @@
--- Law 21: the two running sums are the plain sums modulo 65,536; and a sum is two bytes.
+-- The two running sums are the plain sums modulo 65,536; and a sum is two bytes.
 -- The sums are carried from any start a, b: each step takes the modulus of a sum whose terms may be taken so themselves.
 use Prim.Native.Nat.{ℕ, suc, _+_, _/_, _%_, _<_}
 use mathlib.Core.Bool.{Bool, true, false, not, _&&_, _||_}

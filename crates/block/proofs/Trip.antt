@@ -1,4 +1,4 @@
--- Law 7, both round trips, and in one line that the layout is a bijection; law 6 for sealing.
+-- Both round trips, and in one line that the layout is a bijection; and that what is sealed opens.
 use Prim.Native.Nat.{ℕ, _-_, _*_, _≤_, _<_}
 use mathlib.Core.Bool.{_||_}
 use mathlib.Core.List.{List, [], _∷_, flatMap}

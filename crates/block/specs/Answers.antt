@@ -1,4 +1,4 @@
--- Document 01, "Numbered answers, tested from the top": opening and sealing, answers 1 to 8.
+-- Requirement §9: opening and sealing, answers 1 to 8.
 use Prim.Native.Nat.{ℕ, zero, suc, _+_, _-_, _*_}
 use mathlib.Core.Bool.{Bool, cond, not, _||_}
 use mathlib.Core.List.{List, [], _∷_, flatMap}

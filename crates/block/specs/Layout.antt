@@ -1,4 +1,4 @@
--- Document 01, "The patch block, 512 bytes": the layout, read and written, and the two sums.
+-- Requirement §2: the layout, read and written, and the two sums.
 use Prim.Native.Nat.{ℕ, _+_, _-_, _/_, _%_, _^_}
 use mathlib.Core.List.{List, [], _∷_, _++_, flatMap}
 use lib.ListN.{length, getD, take, drop, replicate}

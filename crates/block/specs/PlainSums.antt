@@ -1,4 +1,4 @@
--- Document 01, "both sums start at 0 and wrap at 65,536": the two sums with no wrapping on the way.
+-- Requirement §2.3: the two sums with no wrapping on the way.
 use Prim.Native.Nat.{ℕ}
 use mathlib.Core.List.{List, map}
 use lib.ListN.{length, take}

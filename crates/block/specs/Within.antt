@@ -1,4 +1,4 @@
--- Document 01's limits as statements: what a patch must be to stand in a block, what a block holds that opens,
+-- Requirement §2, its limits as statements: what a patch must be to stand in a block, what a block holds that opens,
 -- and the layout as a bijection.
 use Prim.Native.Nat.{ℕ, _+_, _-_, _*_, _≤_}
 use mathlib.Core.Bool.{Bool}

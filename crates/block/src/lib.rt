@@ -55,7 +55,7 @@ pub enum Answer {
 }
 
 impl Answer {
-    // Document 01's number.
+    // The number of the answer.
     pub fn number(self) -> u8
         ensures { λ r. ⌜ r ≡ numberOf self ⌝ }
     {

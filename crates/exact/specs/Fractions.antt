@@ -1,4 +1,4 @@
--- Document 01, "Quality, score and badness": fractions are ordered exactly, and a quotient is rounded up.
+-- Requirement §4: fractions are ordered exactly, and a quotient is rounded up.
 use Prim.Native.Nat.{ℕ, _+_, _*_, _/_, _%_}
 use mathlib.Core.Bool.{Bool, cond}
 use lib.Dec.{eqb, ltb}

@@ -1,4 +1,4 @@
--- Document 01, "Orientation, faces and the mesh rule".
+-- Requirement §3: orientation, directed faces and the mesh rule.
 use Prim.Native.Nat.{ℕ, _+_, _*_, _<_}
 use mathlib.Core.Bool.{Bool, true, not, _&&_, _||_}
 use mathlib.Core.List.{List, [], _∷_, _++_, foldr, map, flatMap}

@@ -1,4 +1,4 @@
--- Document 01, "Ring and replacement" and "Plain flips": the block afterwards, from the rows that stay and the new rows behind them.
+-- Requirement §7.7 and §8: the block afterwards, from the rows that stay and the new rows behind them.
 use Prim.Native.Nat.{ℕ, _-_, _*_, _≤_}
 use mathlib.Core.Bool.{Bool, not}
 use mathlib.Core.List.{List, [], _∷_, flatMap}
