@@ -1,16 +1,17 @@
--- The links that two arrays hold: how many, which stands where, and one link more.
+-- The links and places that three arrays hold: how many, which stands where, and one more.
 use Prim.Native.Nat.{ℕ, suc, _+_, _<_}
 use mathlib.Core.List.{[], _∷_, _++_, map}
 use mathlib.Core.Path.{_≡_, ap, _∙_}
+use native.Mathlib.Numerals.{add-one}
 use native.Mathlib.Omega.{arith}
 use lib.ListN.{length, getD, set, drop, length-map}
-use lib.Seq.{drop-cons, getD-set-same, getD-set-other}
+use lib.Seq.{drop-cons, getD-set-same, getD-set-other, take-suc-set}
 use Rattle.lists.specs.Lists.{numbersFrom}
 use Rattle.lists.proofs.Numbers.{numbers-e, map-numbers-length, map-numbers-at, map-numbers-append}
 use Rattle.lists.proofs.Images.{map-same, map-at}
 use Rattle.ring.specs.declared.Links.{Links}
 use Rattle.ring.specs.Ring.{Link, starts, ends}
-use Rattle.ring.specs.Found.{linksIn}
+use Rattle.ring.specs.Found.{linksIn, placesIn}
 
 pub in-length : (links : Links) → length (linksIn links) ≡ links .n
 unfolding linksIn
@@ -31,16 +32,24 @@ starts-at links i h =
     let k : i < length (linksIn links) = omega (arith, in-length links) in
     map-at (λ (l : Link). l .0) (linksIn links) i (0, 0) 0 k ∙ ap (λ (l : Link). l .0) (in-at links i h)
 
-pub in-drop : (links : Links) (i : ℕ) → i < links .n
-    → drop i (linksIn links) ≡ (getD (links .starts) i 0, getD (links .ends) i 0) ∷ drop (suc i) (linksIn links)
-in-drop links i h = drop-cons (linksIn links) i (0, 0) (omega (arith, in-length links))
-    ∙ ap (λ l. l ∷ drop (suc i) (linksIn links)) (in-at links i h)
+-- the links, with one row more
+abbrev withRow : Links → ℕ → ℕ → ℕ → Links
+withRow links place v w =
+    record {
+      n = links .n + 1;
+      places = set (links .places) (links .n) place;
+      starts = set (links .starts) (links .n) v;
+      ends = set (links .ends) (links .n) w;
+    }
 
-pub in-added : (links : Links) (v w : ℕ) → links .n < length (links .starts) → links .n < length (links .ends)
-    → linksIn (record { n = links .n + 1; starts = set (links .starts) (links .n) v; ends = set (links .ends) (links .n) w })
-    ≡ linksIn links ++ (v, w) ∷ []
+pub places-added : (links : Links) (place v w : ℕ) → links .n < length (links .places)
+    → placesIn (withRow links place v w) ≡ placesIn links ++ place ∷ []
+places-added links place v w p = rw add-one (take-suc-set (links .places) (links .n) place p)
+
+pub in-added : (links : Links) (place v w : ℕ) → links .n < length (links .starts) → links .n < length (links .ends)
+    → linksIn (withRow links place v w) ≡ linksIn links ++ (v, w) ∷ []
 unfolding linksIn numbersFrom
-in-added links v w s e =
+in-added links place v w s e =
     let n = links .n in
     let at : ℕ → Link = λ i. (getD (set (links .starts) n v) i 0, getD (set (links .ends) n w) i 0) in
     let old : ℕ → Link = λ i. (getD (links .starts) i 0, getD (links .ends) i 0) in

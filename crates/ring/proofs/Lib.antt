@@ -1,5 +1,6 @@
 pub mod Arrays
 pub mod Tables
+pub mod Around
 pub mod Linking
 pub mod Walking
 pub mod Stepping

@@ -1,4 +1,4 @@
--- Law 10: links that all close, in one circle, are the links of the ring, and links in one open chain are those of the chain:
+-- Links that all close, in one circle, are the links of the ring, and links in one open chain are those of the chain:
 -- its points are different, each is linked to the next, and of a ring the last to the first.
 use Prim.Native.Nat.{ℕ, zero, suc, _+_, _<_}
 use mathlib.Core.Bool.{Bool, true, false, cond}

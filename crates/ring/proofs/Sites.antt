@@ -1,4 +1,4 @@
--- Law 10 of an edge in its patch: answers 9 to 12 not given, the removed rows' links are those of the ring or chain, and its points fit.
+-- An edge in its patch: answers 9 to 12 not given, the removed rows' links are those of the ring or chain, and its points fit.
 use Prim.Native.Nat.{ℕ, zero, suc, _+_, _≤_, _<_, min, max}
 use mathlib.Core.Bool.{Bool, true, false, cond, not, _&&_, _||_}
 use mathlib.Core.List.{List, [], _∷_, List·Memᴰ, List·Memᴰ·head, List·Memᴰ·tail}

@@ -1,18 +1,20 @@
--- Tables of rows, one row more at a time: their links, and the fit of their numbers.
+-- Tables of rows, one row more at a time: their links, the places of the rows that give them, and the fit of their numbers.
 use Prim.Native.Nat.{ℕ, _+_, _<_}
 use mathlib.Core.Bool.{true, false}
 use mathlib.Core.List.{List, [], _∷_, _++_, map, map-append}
-use mathlib.Core.Path.{_≡_, ap, _∙_}
+use mathlib.Core.Path.{_≡_, sym, ap, _∙_}
 use native.Mathlib.Numerals.{add-one}
+use native.Mathlib.Omega.{arith}
 use lib.Dec.{T}
-use Rattle.lists.specs.Lists.{those}
+use Rattle.lists.specs.Lists.{those, numbersFrom}
 use Rattle.lists.proofs.Lists.{every-at, those-yes, those-no}
+use Rattle.lists.proofs.Numbers.{numbers-append}
 use Rattle.mesh.specs.declared.Row.{Row}
 use Rattle.mesh.specs.Mesh.{rowIn, rowsIn, numbersFit, keepsMeshRule, holdsEdge}
 use Rattle.mesh.proofs.Tables.{rows-more, row-among}
 use Rattle.mesh.proofs.Rule.{keeps-fits}
 use Rattle.ring.specs.Ring.{Link, link}
-use Rattle.ring.specs.Found.{linksOf}
+use Rattle.ring.specs.Found.{linksOf, placesOf}
 
 -- a row of a table that keeps the mesh rule
 pub row-fits : (count : ℕ) (table : List ℕ) (n i : ℕ) → T (keepsMeshRule count (rowsIn table n)) → i < n
@@ -37,3 +39,16 @@ module _ (a b : ℕ) (table : List ℕ) (i : ℕ) {links : List Link} {row : Row
 
   pub table-same : holdsEdge a b row ≡ false → links ≡ linksOf a b (rowsIn table (i + 1))
   table-same h = rw (add-one, rows-more table i, ← is-row, links-same a b (rowsIn table i) row h) so-far
+
+-- the same of the places
+module _ (a b : ℕ) (table : List ℕ) (i : ℕ) {places : List ℕ} {row : Row} (so-far : places ≡ placesOf a b table i)
+    (is-row : row ≡ rowIn table i) where
+  one-more : numbersFrom 0 (i + 1) ≡ numbersFrom 0 i ++ i ∷ []
+  unfolding numbersFrom
+  one-more = numbers-append 0 i 1 ∙ ap (λ k. numbersFrom 0 i ++ k ∷ []) (omega arith)
+
+  pub places-more : holdsEdge a b row ≡ true → places ++ i ∷ [] ≡ placesOf a b table (i + 1)
+  places-more h = rw (so-far, one-more) (sym (those-yes (λ k. holdsEdge a b (rowIn table k)) (numbersFrom 0 i) i (rw is-row at h)))
+
+  pub places-same : holdsEdge a b row ≡ false → places ≡ placesOf a b table (i + 1)
+  places-same h = rw (so-far, one-more) (sym (those-no (λ k. holdsEdge a b (rowIn table k)) (numbersFrom 0 i) i (rw is-row at h)))

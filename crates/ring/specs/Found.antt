@@ -8,7 +8,7 @@ use lib.Dec.{T, eqb, ltb}
 use lib.ListN.{length, getD, take}
 use Rattle.lists.specs.Lists.{those, numbersFrom}
 use Rattle.mesh.specs.declared.Row.{Row}
-use Rattle.mesh.specs.Mesh.{rowSize, rowsIn, numbersFit, keepsMeshRule, holdsEdge}
+use Rattle.mesh.specs.Mesh.{rowSize, rowIn, rowsIn, numbersFit, keepsMeshRule, holdsEdge}
 use Rattle.block.specs.Layout.{maxRows}
 use Rattle.block.specs.Answers.{Tests, firstRefusal, answerOf}
 use Rattle.block.specs.declared.Answer.the-variants.{Done, Refused}
@@ -55,6 +55,10 @@ sizedOf closed points =
 abbrev pub linksOf : ℕ → ℕ → List Row → List Link
 linksOf a b rows = map (link a b) (those (holdsEdge a b) rows)
 
+-- where the rows that hold both ends stand among the first n of a table
+abbrev pub placesOf : ℕ → ℕ → List ℕ → ℕ → List ℕ
+placesOf a b table n = those (λ i. holdsEdge a b (rowIn table i)) (numbersFrom 0 n)
+
 -- what follows b in the face x, y, z, turned round to begin with b
 abbrev pub following : ℕ → ℕ → ℕ → ℕ → Link
 following x y z b = cond (eqb b x) (y, z) (cond (eqb b y) (z, x) (x, y))
@@ -74,9 +78,21 @@ pub record Table (table : List ℕ) (n a b : ℕ) : Type 0 where
   pub rule : T (keepsMeshRule count (rowsIn table n))
   pub order : a < b
 
--- the links in two arrays, the starts and the ends
+-- the links in two of the arrays, the starts and the ends
 unfoldable pub linksIn : Links → List Link
 linksIn links = map (λ i. (getD (links .starts) i 0, getD (links .ends) i 0)) (numbersFrom 0 (links .n))
+
+-- the places in the third, of the rows that give the links
+abbrev pub placesIn : Links → List ℕ
+placesIn links = take (links .n) (links .places)
+
+-- The rows that hold both ends, among the first so many of a table, as the code keeps them: their links and their places.
+pub record Around (table : List ℕ) (a b : ℕ) (links : Links) : Type 0 where
+  pub rows : ℕ
+  pub meshed : Table table rows a b
+  pub few : links .n ≤ maxRows
+  pub linked : linksIn links ≡ linksOf a b (rowsIn table rows)
+  pub placed : placesIn links ≡ placesOf a b table rows
 
 -- the points that a walk went by
 abbrev pub wentBy : Trail → List ℕ

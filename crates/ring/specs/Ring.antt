@@ -1,4 +1,4 @@
--- Document 01, "Ring and replacement" as far as the ring, with document 02's open chain, and answers 9 to 13 and 19.
+-- Requirement §6: links, the ring and the open chain; and §9, answers 9 to 13 and 19.
 use Prim.Native.Nat.{ℕ, zero, suc, _-_, min, max}
 use mathlib.Core.Bool.{Bool, true, false, cond, not, _&&_, _||_}
 use mathlib.Core.List.{List, [], _∷_, map, foldr}

@@ -1,4 +1,4 @@
--- Document 01, "Ring and replacement": what a patch that opens and an edge without answers 9 to 12 give, as statements.
+-- Requirement §6: what a patch that opens and an edge without answers 9 to 12 give, as statements.
 use Prim.Native.Nat.{ℕ, suc, _+_, _<_}
 use mathlib.Core.Bool.{true, cond, not}
 use mathlib.Core.List.{List, map, List·Memᴰ}

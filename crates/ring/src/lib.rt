@@ -8,8 +8,8 @@ ghost use Rattle.lists.specs.Lists.{has};
 ghost use Rattle.mesh.specs.Mesh.{rowsIn};
 ghost use Rattle.block.specs.Layout.{maxRows};
 ghost use Rattle.ring.specs.Ring.{link, circle, starts, ends, smallest, follow, maxRing, ringWith};
-ghost use Rattle.ring.specs.Found.{refusedWith, sizedOf, foundOf, edgeIn, linksOf, following};
-ghost use Rattle.ring.specs.Found.{linksIn, wentBy, walked, StartsAt, LinkedRow, Table};
+ghost use Rattle.ring.specs.Found.{refusedWith, sizedOf, foundOf, edgeIn, linksOf, placesOf, following};
+ghost use Rattle.ring.specs.Found.{linksIn, placesIn, wentBy, walked, StartsAt, LinkedRow, Table, Around};
 use block::Answer;
 use block::MAX_ROWS;
 use mesh::Row;
@@ -41,9 +41,10 @@ pub struct Link {
     pub w: u8,
 }
 
-// The n links round an edge, in the order of their rows: link i goes from starts[i] to ends[i].
+// The n rows round an edge, in the order of the table: row i stands at places[i], and its link goes from starts[i] to ends[i].
 struct Links {
     n: usize,
+    places: [u8; MAX_ROWS],
     starts: [u8; MAX_ROWS],
     ends: [u8; MAX_ROWS],
 }
@@ -87,33 +88,37 @@ pub fn link_of(row: Row, a: u8, b: u8) -> Link
     after(row.p, row.r, row.q, b)
 }
 
-// One link more.
-fn added(links: Links, l: Link) -> Links
+// One row more, with its link.
+fn added(links: Links, place: u8, l: Link) -> Links
     requires { ⌜ links .n < maxRows ⌝ }
-    ensures { λ r. ⌜ (r .n ≡ links .n + 1) × (linksIn r ≡ linksIn links ++ (l .v, l .w) ∷ []) ⌝ }
+    ensures { λ r. ⌜ (r .n ≡ links .n + 1) × (linksIn r ≡ linksIn links ++ (l .v, l .w) ∷ [])
+        × (placesIn r ≡ placesIn links ++ place ∷ []) ⌝ }
 {
     let n = links.n;
     let mut next = links;
+    next.places[n] = place;
     next.starts[n] = l.v;
     next.ends[n] = l.w;
     next.n = n + 1;
     next
 }
 
-// The links of the first n rows.
+// The rows round the edge, of the first n.
 fn gather(table: &[u8], n: usize, a: u8, b: u8) -> Links
     requires { ⌜ Table (now table) n a b ⌝ }
-    ensures { λ r. ⌜ (r .n ≤ maxRows) × (linksIn r ≡ linksOf a b (rowsIn (now (table .entry)) n)) ⌝ }
+    ensures { λ r. ⌜ (r .n ≤ maxRows) × (linksIn r ≡ linksOf a b (rowsIn (now (table .entry)) n))
+        × (placesIn r ≡ placesOf a b (now (table .entry)) n) ⌝ }
 {
     let mut links = Links {
         n: 0,
+        places: [0; MAX_ROWS],
         starts: [0; MAX_ROWS],
         ends: [0; MAX_ROWS],
     };
     for i in 0..n {
         let row = mesh::row_in(table, i);
         if mesh::holds_edge(row, a, b) {
-            links = added(links, link_of(row, a, b));
+            links = added(links, i as u8, link_of(row, a, b));
         }
     }
     links
@@ -162,9 +167,10 @@ fn first_point(links: Links) -> u8
     smallest_start(links)
 }
 
-// The walk from a point along the links: it ends at the first missing link, or when it is back at its start.
-fn walk(links: Links, start: u8) -> Trail
-    requires { ⌜ links .n ≤ maxRows ⌝ }
+// The walk from a point, a link at a time: it ends at the first missing link, where no row round the edge continues it, or when it is
+// back at its start.
+fn walk(table: &[u8], a: u8, b: u8, links: Links, start: u8) -> Trail
+    requires { ⌜ Around (now table) a b links ⌝ }
     ensures { λ r. ⌜ (r .m ≤ length (r .v)) × (walked r ≡ circle (linksIn links) start)
         × (r .closed ≡ false → wentBy r ≡ follow (links .n) (linksIn links) start) ⌝ }
 {
@@ -174,10 +180,12 @@ fn walk(links: Links, start: u8) -> Trail
     let mut m: usize = 0;
     'walk: while m < n {
         for i in 0..n {
-            if here == links.starts[i] {
+            let row = mesh::row_in(table, links.places[i] as usize);
+            let link = link_of(row, a, b);
+            if here == link.v {
                 v[m] = here;
                 m += 1;
-                here = links.ends[i];
+                here = link.w;
                 if here == start {
                     return Trail {
                         closed: true,
@@ -255,7 +263,7 @@ pub fn find(table: &[u8], n: usize, a: u8, b: u8, chains: bool) -> Found
     if links.n == 0 {
         return refused(10);
     }
-    let trail = walk(links, first_point(links));
+    let trail = walk(table, a, b, links, first_point(links));
     if trail.closed {
         if trail.m < links.n {
             return refused(12);

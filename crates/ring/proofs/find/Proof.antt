@@ -26,7 +26,15 @@ first-point-requires : tie.Need-first-point-requires
 first-point-requires c κs = search needs
 
 walk-requires : tie.Need-walk-requires
-walk-requires c κs = search needs
+walk-requires c κs =
+    let got = c .before .before .before in
+    record {
+      rows = got .before .before .args .n;
+      meshed = got .before .before .pre;
+      few = got .gather .ensures .0;
+      linked = got .gather .ensures .1;
+      placed = got .gather .ensures .2;
+    }
 
 -- after the walk
 abbrev At-walk : Type 0

@@ -1,6 +1,6 @@
 -- `walk` takes the steps of the definitions: the points so far, and then the walk that is left, are the circle; the points so far,
 -- and then those that follow, are the chain.
--- The inner loop has passed only links that do not start here, so the step goes by those that are left.
+-- The inner loop has passed only rows whose links do not start here, so the step goes by those that are left.
 use Prim.Native.Nat.{ℕ, _+_, _≤_, _-_}
 use mathlib.Core.List.{List, _++_}
 use mathlib.Core.Logic.{⊎-elim}
@@ -8,31 +8,33 @@ use mathlib.Core.Option.{none, some}
 use mathlib.Core.Path.{_≡_, refl, ap, _∙_, subst}
 use native.Mathlib.Numerals.{add-one}
 use native.Mathlib.Omega.{arith}
+use borrow.Author.Needs.{needs}
 use lib.Dec.{T}
 use lib.ListN.{length, take, set, drop, length-set, drop-of-length-le}
 use Rattle.ring.specs.Ring.{Link, next, walk, circle, follow}
 use Rattle.ring.specs.Found.{linksIn}
 use Rattle.ring.proofs.Stepping.{onto, onto-none, next-here, next-later, walk-closes, walk-goes, walk-stops, walk-spent}
 use Rattle.ring.proofs.Stepping.{follow-goes, follow-ends, follow-spent}
-use Rattle.ring.proofs.Arrays.{in-length, in-drop}
+use Rattle.ring.proofs.Arrays.{in-length}
+use Rattle.ring.proofs.Around.{place-inside, place-linked, place-first}
 use Rattle.ring.proofs.walk.Statement.{statement}
 use Rattle.ring.proofs.walk.Tie as tie
 
 abbrev Inv-loop : tie.InvT-loop
-Inv-loop start links n v₀ here₀ m₀ i₀ v here m i =
+Inv-loop table a b start links n v₀ here₀ m₀ i₀ v here m i =
     (v ≡ v₀) × (here ≡ here₀) × (m ≡ m₀) × (i ≤ n) × (next (linksIn links) here ≡ next (drop i (linksIn links)) here)
 
 abbrev μ-loop : tie.MeasureT-loop
-μ-loop start links n v₀ here₀ m₀ i₀ v here m i = n - i
+μ-loop table a b start links n v₀ here₀ m₀ i₀ v here m i = n - i
 
 abbrev Inv-walk : tie.InvT-walk
-Inv-walk start links n v₀ here₀ m₀ v here m =
+Inv-walk table a b start links n v₀ here₀ m₀ v here m =
     (m ≤ n) × (n ≡ links .n) × (length v ≡ 61)
     × (circle (linksIn links) start ≡ onto (take m v) (walk (n - m) (linksIn links) start here))
     × (follow n (linksIn links) start ≡ take m v ++ follow (n - m) (linksIn links) here)
 
 abbrev μ-walk : tie.MeasureT-walk
-μ-walk start links n v₀ here₀ m₀ v here m = n - m
+μ-walk table a b start links n v₀ here₀ m₀ v here m = n - m
 
 -- the inner loop leaves the walk so far as it was
 inside : (links : List Link) (start n : ℕ) {v v' : List ℕ} {here here' m m' : ℕ} → v ≡ v' → here ≡ here' → m ≡ m'
@@ -47,16 +49,30 @@ inside-follow links start n p q r e = rw (p, q, r) e
 
 walk-holds : tie.Need-walk-holds Inv-loop μ-loop Inv-walk μ-walk
 walk-holds c =
-    let links = linksIn (c .args .t1) in
-    let e : length links ≡ c .args .t1 .n - 0 = omega (arith, in-length (c .args .t1)) in
-    let all : c .args .t1 .n ≡ c .args .t1 .n - 0 = omega arith in
-    (omega arith, refl, refl, rw e (onto-none _), ap (λ k. follow k links (c .args .start)) all)
+    let args = c .before .args in
+    let links = linksIn (args .t4) in
+    let e : length links ≡ args .t4 .n - 0 = omega (arith, in-length (args .t4)) in
+    let all : args .t4 .n ≡ args .t4 .n - 0 = omega arith in
+    (omega arith, refl, refl, rw e (onto-none _), ap (λ k. follow k links (args .start)) all)
 
 loop-holds : tie.Need-loop-holds Inv-loop μ-loop Inv-walk μ-walk
 loop-holds c = (refl, refl, refl, omega arith, refl)
 
-element-copy-out-if1 : tie.Need-element-copy-out-if1 Inv-loop μ-loop Inv-walk μ-walk
-element-copy-out-if1 c = omega arith
+element-copy-out-row-in : tie.Need-element-copy-out-row-in Inv-loop μ-loop Inv-walk μ-walk
+element-copy-out-row-in c = omega arith
+
+cast-row-in : tie.Need-cast-row-in Inv-loop μ-loop Inv-walk μ-walk
+cast-row-in c = search needs
+
+row-in-requires : tie.Need-row-in-requires Inv-loop μ-loop Inv-walk μ-walk
+row-in-requires c κs =
+    let at = c .before .before in
+    place-inside (at .before .before .before .before .pre) (at .loop .i) (c .before .loop-test .taken)
+
+link-of-requires : tie.Need-link-of-requires Inv-loop μ-loop Inv-walk μ-walk
+link-of-requires c κs =
+    let at = c .before .before .before in
+    rw (c .row-in .ensures) (place-linked (at .before .before .before .before .pre) (at .loop .i) (c .before .before .loop-test .taken))
 
 array-write-v : tie.Need-array-write-v Inv-loop μ-loop Inv-walk μ-walk
 array-write-v c = omega arith
@@ -64,22 +80,22 @@ array-write-v c = omega arith
 add-m : tie.Need-add-m Inv-loop μ-loop Inv-walk μ-walk
 add-m c = omega arith
 
-element-copy-out-here : tie.Need-element-copy-out-here Inv-loop μ-loop Inv-walk μ-walk
-element-copy-out-here c = omega arith
-
 returns : tie.Need-returns Inv-loop μ-loop Inv-walk μ-walk
 returns c =
-    let at = c .before .before .before .before .before in
+    let linked = c .before .before .before in
+    let at = linked .before .before .before .before in
     let inv = at .loop .inv in
     let out = at .before .before .walk .inv in
-    let links = at .before .before .before .args .t1 in
-    let start = at .before .before .before .args .start in
-    let d = in-drop links (at .loop .i) (omega arith) in
+    let links = at .before .before .before .before .args .t4 in
+    let start = at .before .before .before .before .args .start in
+    let d =
+    place-first (at .before .before .before .before .pre) (at .loop .i) (linked .before .before .before .loop-test .taken)
+    (linked .before .row-in .ensures) (linked .link-of .ensures) in
     let so-far = inside (linksIn links) start (links .n) (inv .0) (inv .1) (inv .2) (out .3) in (
       simp length-set (rw (inv .0) (omega arith)),
       walk-closes (linksIn links) start (links .n) (at .loop .m) (at .loop .v) (at .loop .here) so-far (omega arith)
           (rw (inv .0) (omega arith))
-          (inv .4 ∙ next-here d (c .before .before .if1 .taken) ∙ ap some (c .if2 .taken)),
+          (inv .4 ∙ next-here d (c .before .if1 .taken) ∙ ap some (c .if2 .taken)),
       λ no. absurd (subst T no tt),
     )
 
@@ -88,15 +104,18 @@ walk-less c = omega arith
 
 walk-again : tie.Need-walk-again Inv-loop μ-loop Inv-walk μ-walk
 walk-again c =
-    let at = c .before .before .before .before .before in
+    let linked = c .before .before .before in
+    let at = linked .before .before .before .before in
     let inv = at .loop .inv in
     let out = at .before .before .walk .inv in
-    let links = at .before .before .before .args .t1 in
-    let start = at .before .before .before .args .start in
-    let d = in-drop links (at .loop .i) (omega arith) in
+    let links = at .before .before .before .before .args .t4 in
+    let start = at .before .before .before .before .args .start in
+    let d =
+    place-first (at .before .before .before .before .pre) (at .loop .i) (linked .before .before .before .loop-test .taken)
+    (linked .before .row-in .ensures) (linked .link-of .ensures) in
     let so-far = inside (linksIn links) start (links .n) (inv .0) (inv .1) (inv .2) (out .3) in
     let followed = inside-follow (linksIn links) start (links .n) (inv .0) (inv .1) (inv .2) (out .4) in
-    let step = inv .4 ∙ next-here d (c .before .before .if1 .taken) in (
+    let step = inv .4 ∙ next-here d (c .before .if1 .taken) in (
       omega arith,
       refl,
       simp length-set (rw (inv .0) (out .2)),
@@ -114,26 +133,29 @@ loop-less c = omega arith
 
 loop-again : tie.Need-loop-again Inv-loop μ-loop Inv-walk μ-walk
 loop-again c =
-    let at = c .before .before .before in
+    let linked = c .before .before in
+    let at = linked .before .before .before .before in
     let inv = at .loop .inv in
-    let d = in-drop (at .before .before .before .args .t1) (at .loop .i) (omega arith) in
+    let d =
+    place-first (at .before .before .before .before .pre) (at .loop .i) (linked .before .before .before .loop-test .taken)
+    (linked .before .row-in .ensures) (linked .link-of .ensures) in
     (inv .0, inv .1, inv .2, omega arith, rw add-one (inv .4 ∙ next-later d (c .if1 .left)))
 
 -- where the walk has ended: its points, with the one where it stands, are those that follow
 abbrev Ended : tie.Left-walk Inv-loop μ-loop Inv-walk μ-walk → Type 0
 Ended c =
-    let args = c .before .before .args in
-    let links = linksIn (args .t1) in
+    let args = c .before .before .before .args in
+    let links = linksIn (args .t4) in
     let at = c .walk-test in
-    (at .m ≤ args .t1 .n) × (length (at .v) ≡ 61) × (none ≡ circle links (args .start))
-    × (take (at .m + 1) (set (at .v) (at .m) (at .here)) ≡ follow (args .t1 .n) links (args .start))
+    (at .m ≤ args .t4 .n) × (length (at .v) ≡ 61) × (none ≡ circle links (args .start))
+    × (take (at .m + 1) (set (at .v) (at .m) (at .here)) ≡ follow (args .t4 .n) links (args .start))
 
 ended : (c : tie.Left-walk Inv-loop μ-loop Inv-walk μ-walk) → Ended c
 unfolding next
 ended c =
     let at = c .before .walk in
-    let links = c .before .before .args .t1 in
-    let start = c .before .before .args .start in
+    let links = c .before .before .before .args .t4 in
+    let start = c .before .before .before .args .start in
     ⊎-elim
     (λ w. (
       omega arith,
@@ -158,8 +180,8 @@ ended c =
 array-write-v-2 : tie.Need-array-write-v-2 Inv-loop μ-loop Inv-walk μ-walk
 array-write-v-2 c = omega (arith, ended c .0)
 
-add-t23 : tie.Need-add-t23 Inv-loop μ-loop Inv-walk μ-walk
-add-t23 c = omega (arith, ended c .0)
+add-t26 : tie.Need-add-t26 Inv-loop μ-loop Inv-walk μ-walk
+add-t26 c = omega (arith, ended c .0)
 
 returns-2 : tie.Need-returns-2 Inv-loop μ-loop Inv-walk μ-walk
 returns-2 c =
@@ -176,10 +198,12 @@ walk-spec =
     μ-walk
     walk-holds
     loop-holds
-    element-copy-out-if1
+    element-copy-out-row-in
+    cast-row-in
+    row-in-requires
+    link-of-requires
     array-write-v
     add-m
-    element-copy-out-here
     returns
     walk-less
     walk-again
@@ -187,5 +211,5 @@ walk-spec =
     loop-less
     loop-again
     array-write-v-2
-    add-t23
+    add-t26
     returns-2)
