@@ -81,7 +81,7 @@ module _ (site : Site) (three : 3 ≤ m site) where
     ring-way free {t} spans h =
         record { spans = spans; keeps = rw (ring-admissible site sound t spans three, free) h }
 
-    -- law 1
+    -- the chosen triangulation is admissible, and none is better
     pub ring-chosen : (t : Tri) → RingWay site t → BestWay site (chosen site)
     ring-chosen t w =
         let best = chosen-optimal site 1 (m site) t (omega arith) (w .spans) (piece-way t w .admissible) in
@@ -125,7 +125,7 @@ module _ (site : Site) (three : 3 ≤ m site) where
       let worst = worst-is (map (rowQuality (site .points)) rows) (rows-fractions (site .points) rows) (worst-there site 1 l r) in
       Memᴰ·of-map (rowQuality (site .points)) rows (worst .inside)
 
--- ---- law 16: how many rows
+-- ---- how many rows
 
 pub after-length : (site : Site) (t : Tri) → span t ≡ m site - 1 → length (tableAfter site t) ≡ rowsAfter site
 unfolding tableAfter

@@ -1,4 +1,4 @@
--- Law 5: whatever triangulation of the ring or of a flat chain is carried out, the total D stays. The removed rows' D are those of their
+-- Whatever triangulation of the ring or of a flat chain is carried out, the total D stays. The removed rows' D are those of their
 -- links, the links are the sides, and the new rows' total is the sum over the sides, less the D of the closing one, which is 0 where
 -- the chain is flat.
 use Prim.Native.Nat.{ℕ, zero, suc, _+_, _-_, _≤_, _<_}
@@ -190,7 +190,7 @@ module _ (site : Site) where
         ⊹ same (con (pos 0)) (var 3 :+ var 4) (sym (closing-none (site .closed) level)))
         refl
 
-    -- law 5: so the whole table keeps its total
+    -- so the whole table keeps its total
     pub table-total : (table : List Row) → site .removed ≡ those (holdsEdge (site .a) (site .b)) table
         → site .kept ≡ those (λ row. not (holdsEdge (site .a) (site .b) row)) table
         → totalD (site .points) (tableAfter site t) ≡ totalD (site .points) table

@@ -1,5 +1,5 @@
--- Document 01, "Ring and replacement": when a triangulation is admissible, of the ring and of a piece; and document 02's closing faces
--- of a chain.
+-- Requirement §7.3 and §7.4: when a triangulation is admissible, of the ring and of a piece; and the
+-- closing faces of a chain.
 use Prim.Native.Nat.{ℕ}
 use mathlib.Core.Bool.{Bool, cond, not, _&&_}
 use mathlib.Core.List.{List, [], _∷_, map, flatMap}

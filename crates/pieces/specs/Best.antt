@@ -1,4 +1,4 @@
--- Document 01, "Ring and replacement": best worst, apex, the chosen triangulation, and the table kept with the ring.
+-- Requirement §7: best worst, apex, the chosen triangulation, and the table kept with the ring.
 use Prim.Native.Nat.{ℕ, zero, suc, _+_, _-_, _*_, _≤_, _<_}
 use mathlib.Core.Bool.{Bool, true, false, cond, _&&_}
 use mathlib.Core.List.{List, map}

@@ -1,4 +1,4 @@
--- Document 01, "Ring and replacement": the new rows in written order, from the apexes that the table keeps.
+-- Requirement §7.7: the new rows in written order, from the apexes that the table keeps.
 use Prim.Native.Nat.{ℕ, _+_, _-_, _≤_, _<_}
 use mathlib.Core.List.{List, [], _∷_}
 use mathlib.Core.Path.{_≡_}

@@ -1,4 +1,4 @@
--- Document 01, "Ring and replacement": best worst and apex of a piece as statements about every triangulation of its span.
+-- Requirement §7.5: best worst and apex of a piece as statements about every triangulation of its span.
 use Prim.Native.Nat.{ℕ, _+_, _-_, _<_}
 use mathlib.Core.Bool.{not}
 use mathlib.Core.Path.{_≡_}

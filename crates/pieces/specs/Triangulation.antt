@@ -1,4 +1,4 @@
--- Document 01, "Ring and replacement": triangulations, their triangles and diagonals, and the new rows.
+-- Requirement §7: triangulations, their triangles and diagonals, and the new rows.
 use Prim.Native.Nat.{ℕ, zero, suc, _+_, _-_, _*_}
 use mathlib.Core.Bool.{cond}
 use mathlib.Core.List.{List, [], _∷_, _++_, map, flatMap}
