@@ -14,6 +14,7 @@ use Rattle.block.specs.Layout.{blockBytes, pointCount, rowCount, tableOf, field
 use Rattle.block.specs.Answers.{Tests, firstRefusal, answerOf, openAnswer}
 use Rattle.block.proofs.Refusals.{answer-done, answer-refused, refuses, goes-on}
 use Rattle.block.proofs.Written.{points-counted}
+use Rattle.tally.proofs.Opens.{few-rows, rows-size, rule-kept}
 use Rattle.ring.specs.declared.Found.{Found}
 use Rattle.ring.specs.Ring.{siteOf, numbersWrong, edgeTests, lengthWrong}
 use Rattle.ring.specs.Found.{Table, foundOf, edgeIn, ringTests}
@@ -22,7 +23,6 @@ use Rattle.ring.proofs.Order.{site-ordered}
 use Rattle.patch.specs.Removing.{blockTests}
 use Rattle.patch.specs.Steps.{edgeAnswer, edgeFound, foundNone}
 use Rattle.patch.proofs.Answering.{front-passed, block-numbered, block-passed}
-use Rattle.patch.proofs.Opens.{few-rows, rows-size, rule-kept}
 
 -- ---- both lengths, then opening
 

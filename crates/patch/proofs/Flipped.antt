@@ -19,6 +19,7 @@ use Rattle.block.specs.Layout.{Patch, blockBytes, maxRows, pointCount, rowCount
 use Rattle.block.specs.Answers.{firstRefusal, answerOf, openAnswer}
 use Rattle.block.proofs.Refusals.{answer-done, answer-refused}
 use Rattle.block.proofs.Written.{points-counted}
+use Rattle.tally.proofs.Opens.{few-rows, rule-kept}
 use Rattle.output.specs.Output.{stays, staying, tableBytes, tableWith, patchWith, Ready}
 use Rattle.output.proofs.Staying.{face-staying}
 use Rattle.output.proofs.Tables.{table-read, table-front, table-append}
@@ -31,7 +32,6 @@ use Rattle.patch.specs.Flipping.{Pair, pairOf, patchAfter23, flip23Tests
 use Rattle.patch.specs.Pairing.{sharing, sharingIn, threeOf, Given}
 use Rattle.patch.proofs.Answering.{block-passed, flip23-left}
 use Rattle.patch.proofs.Finding.{front-refuses}
-use Rattle.patch.proofs.Opens.{few-rows, rule-kept}
 use Rattle.patch.proofs.Sharing.{row-linked, three-rows}
 
 -- what a 2-3 flip says of its answer and of the output afterwards

@@ -21,6 +21,7 @@ use Rattle.block.proofs.Refusals.{answer-refused}
 use Rattle.block.proofs.Written.{rows-counted}
 use Rattle.tally.specs.Measured.{patchIn}
 use Rattle.tally.specs.Summing.{worstOfPatch}
+use Rattle.tally.proofs.Opens.{few-rows}
 use Rattle.ring.specs.declared.Ring.{Ring}
 use Rattle.ring.specs.declared.Found.{Found}
 use Rattle.ring.specs.Ring.{Site, siteOf, m, minRing, maxRing, ringsAlone, orChains, lengthWrong, ringWith}
@@ -46,7 +47,6 @@ use Rattle.patch.proofs.Sites.{sound-site}
 use Rattle.patch.proofs.Deciding.{chosen-rows}
 use Rattle.patch.proofs.Decided.{two-go, plan-passes, plan-rows, plan-after, marked, unmarked}
 use Rattle.patch.proofs.Handed.{Number, handed-done}
-use Rattle.patch.proofs.Opens.{few-rows}
 use Rattle.patch.proofs.Ringing.{found-refused, remove-refused, flip-refused, remove-rest, flip-13, flip-15, flip-0, own-site}
 use Rattle.patch.proofs.Ringing.{own-ring, ringed}
 

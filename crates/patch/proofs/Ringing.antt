@@ -14,6 +14,7 @@ use Rattle.block.specs.Layout.{blockBytes, pointCount, rowCount, coordinatesOf,
 use Rattle.block.specs.Answers.{Tests, firstRefusal}
 use Rattle.block.proofs.Refusals.{passed, goes-on, refuses}
 use Rattle.block.proofs.Written.{points-counted}
+use Rattle.tally.proofs.Opens.{few-points, few-rows, opens-measured}
 use Rattle.ring.specs.declared.Found.{Found}
 use Rattle.ring.specs.Ring.{Site, siteOf, m, minRing, maxRing, ringsAlone, orChains, edgeTests, lengthWrong, ringWith}
 use Rattle.ring.specs.Sound.{SoundRing}
@@ -25,7 +26,6 @@ use Rattle.patch.specs.Flipping.{flip32Tests, flip32Answer}
 use Rattle.patch.specs.Steps.{edgeAnswer, edgeFound, Ringed, planAnswer}
 use Rattle.patch.proofs.Answering.{front-numbered, reached, remove-left, flip32-left}
 use Rattle.patch.proofs.Handed.{Number, number-handed, handed-done}
-use Rattle.patch.proofs.Opens.{few-points, few-rows, opens-measured}
 use Rattle.patch.proofs.Sites.{ends-fit, sound-site, ring-point}
 
 -- a refusal stands, if the last test is only stricter and others follow it

@@ -1,4 +1,4 @@
--- Document 01, "Plain flips (no quality test)": from all inputs to the answer and every byte of the output.
+-- Requirement §8: from all inputs to the answer and every byte of the output.
 use Prim.Native.Nat.{ℕ, max}
 use mathlib.Core.Bool.{not}
 use mathlib.Core.List.{List, [], _∷_, _++_, map, foldr}

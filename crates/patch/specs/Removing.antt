@@ -1,4 +1,4 @@
--- Document 01, "Numbered answers" of a removal, with document 02's 19: from all inputs to its answer, every byte of the output,
+-- Requirement §9 of a removal: from all inputs to its answer, every byte of the output,
 -- page row and ring.
 use Prim.Native.Nat.{ℕ, zero, suc, _-_}
 use mathlib.Core.Bool.{Bool, not, _||_}

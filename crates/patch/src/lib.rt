@@ -13,6 +13,7 @@ mod summing;
 
 pub use block::open;
 pub use block::seal;
+pub use display::shown;
 pub use flipping::flip_23;
 pub use flipping32::flip_32;
 use measure::PageRow;
@@ -28,7 +29,7 @@ pub enum Summarised {
 }
 
 impl Summarised {
-    // Document 01's number.
+    // The number of the answer.
     pub fn number(self) -> u8
         ensures { λ r. ⌜ r ≡ summaryNumber self ⌝ }
     {
@@ -46,7 +47,7 @@ pub enum Removal {
 }
 
 impl Removal {
-    // Document 01's number.
+    // The number of the answer.
     pub fn number(self) -> u8
         ensures { λ r. ⌜ r ≡ removalNumber self ⌝ }
     {

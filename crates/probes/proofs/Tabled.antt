@@ -14,6 +14,7 @@ use Rattle.block.specs.declared.Answer.{Answer}
 use Rattle.block.specs.declared.Answer.the-variants.{Done, Refused}
 use Rattle.block.specs.Layout.{blockBytes, pointCount, rowCount, coordinatesOf, tableOf, fieldsOf}
 use Rattle.block.specs.Answers.{notBlock, sumWrong, bodyTests, firstRefusal, answerOf, openAnswer}
+use Rattle.block.proofs.Right.{right-block}
 use Rattle.ring.specs.declared.Found.{Found}
 use Rattle.ring.specs.declared.Ring.{Ring}
 use Rattle.ring.specs.Ring.{Site, siteOf, m, minRing, maxRing, ringsAlone, ringWith}
@@ -26,7 +27,6 @@ use Rattle.pieces.proofs.Shut.{ring-open, open-piece}
 use Rattle.patch.specs.Removing.{blockTests}
 use Rattle.patch.specs.Steps.{edgeAnswer, edgeFound, foundNone}
 use Rattle.patch.proofs.Finding.{edge-blocked, edge-opens, edge-9-first, edge-9-second, edge-table, edge-ring}
-use Rattle.patch.proofs.Opens.{block-size}
 use Rattle.patch.proofs.Ringing.{edge-sound, ends-bytes, own-closed, alone-closed, own-site, ringed}
 use Rattle.probes.specs.Probed.{ringAt, topApex}
 
@@ -66,7 +66,7 @@ module _ (block : List ℕ) where
         blocks = i ∙ ap answerOf (sym own-answer)
 
         pub size : length block ≡ blockBytes
-        size = block-size block (edge-opens ringsAlone block block e f answer blocks j)
+        size = right-block block (edge-opens ringsAlone block block e f answer blocks j) .size
 
         pub over : pointCount block ≤ f → ringWith [] ≡ ringAt block e f
         over h = go (ltb e (pointCount block)) refl
@@ -119,7 +119,7 @@ module _ (block : List ℕ) where
           go (suc n) l = absurd (l (rw (ne-eqb (suc n) 0 (λ z. omega arith))))
 
       pub whole : length block ≡ blockBytes
-      whole = block-size block (edge-sound ringsAlone block block e f (edgeFound ringsAlone block block e f) refl done .opens)
+      whole = right-block block (edge-sound ringsAlone block block e f (edgeFound ringsAlone block block e f) refl done .opens) .size
 
       pub bytes : (e < 256) × (f < 256)
       bytes = ends-bytes ringsAlone block block e f (edgeFound ringsAlone block block e f) refl done

@@ -3,3 +3,5 @@ pub mod Totals
 pub mod Worsts
 pub mod Bounds
 pub mod Tallies
+pub mod Opens
+pub mod Paging

@@ -1,4 +1,4 @@
--- Document 01, "Summary": the summary of a patch, and its worst row.
+-- Requirement §5: the summary of a patch, and its worst row.
 use mathlib.Core.List.{List, map}
 use mathlib.Core.Option.{Option·getD}
 use Rattle.lists.specs.Lists.{count}

@@ -7,8 +7,8 @@ use native.Mathlib.Omega.{arith}
 use borrow.Author.Needs.{needs}
 use lib.ListN.{length}
 use Rattle.block.specs.Layout.{blockBytes}
+use Rattle.tally.proofs.Opens.{block-size}
 use Rattle.patch.proofs.Finding.{edge-blocked, edge-opens, edge-9-first, edge-9-second, edge-9-same, edge-table, edge-ring}
-use Rattle.patch.proofs.Opens.{block-size}
 use Rattle.patch.proofs.edges.edge_at.Statement.{statement}
 use Rattle.patch.proofs.edges.edge_at.Tie as tie
 use Rattle.patch.proofs.edges.edge_at.Reads as reads

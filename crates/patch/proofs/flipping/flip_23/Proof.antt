@@ -2,7 +2,7 @@
 use mathlib.Core.List.{List·Memᴰ·head, List·Memᴰ·tail}
 use mathlib.Core.Path.{refl}
 use native.Mathlib.Omega.{arith}
-use Rattle.patch.proofs.Opens.{block-size, few-points}
+use Rattle.tally.proofs.Opens.{block-size, few-points}
 use Rattle.patch.proofs.Flipped.{is-refused, opened, is-9, face-given, numbers-below}
 use borrow.Author.Needs.{needs}
 use Rattle.patch.proofs.flipping.flip_23.Statement.{statement}

@@ -1,7 +1,7 @@
 -- `flip_face` tests 10, 11, 18, 14 and 15, in this order, and writes only behind the last.
 use native.Mathlib.Omega.{arith}
 use borrow.Author.Tests.{not-true, not-false}
-use Rattle.patch.proofs.Opens.{block-size, few-rows, rows-size}
+use Rattle.tally.proofs.Opens.{block-size, few-rows, rows-size}
 use Rattle.patch.proofs.Flipped.{few-kept, is-10, is-11, is-18, is-14, is-15, is-0, found-linked, after-ready}
 use borrow.Author.Needs.{needs}
 use Rattle.patch.proofs.flipping.flip_face.Statement.{statement}

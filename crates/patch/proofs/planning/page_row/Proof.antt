@@ -2,7 +2,7 @@
 use mathlib.Core.Path.{ap, ap₂, _∙_}
 use borrow.Author.Needs.{needs}
 use Rattle.measure.specs.Page.{shown, pageRow}
-use Rattle.patch.proofs.Paging.{worst-carries}
+use Rattle.tally.proofs.Paging.{worst-carries}
 use Rattle.patch.proofs.planning.page_row.Statement.{statement}
 use Rattle.patch.proofs.planning.page_row.Tie as tie
 

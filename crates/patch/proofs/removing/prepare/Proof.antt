@@ -7,11 +7,11 @@ use borrow.Author.Needs.{needs}
 use lib.ListN.{length}
 use Rattle.block.specs.declared.Answer.the-variants.{Done}
 use Rattle.block.specs.Layout.{blockBytes, pointCount, rowCount, coordinatesOf, tableOf}
+use Rattle.tally.proofs.Opens.{block-size}
 use Rattle.ring.specs.declared.Found.{Found}
 use Rattle.ring.specs.Ring.{orChains}
 use Rattle.patch.specs.Steps.{edgeFound, Ringed}
 use Rattle.patch.proofs.Decided.{plan-refused, plan-measured}
-use Rattle.patch.proofs.Opens.{block-size}
 use Rattle.patch.proofs.Outcomes.{edge-refuses, plan-refuses, done-outcome}
 use Rattle.patch.proofs.Ringing.{edge-sound, ends-bytes, ringed}
 use Rattle.patch.proofs.removing.prepare.Statement.{statement}

@@ -2,7 +2,7 @@
 use native.Mathlib.Omega.{arith}
 use borrow.Author.Needs.{needs}
 use Rattle.block.specs.Answers.{openAnswer}
-use Rattle.patch.proofs.Opens.{block-size, opens-measured}
+use Rattle.tally.proofs.Opens.{block-size, opens-measured}
 use Rattle.patch.proofs.Handed.{handed-done, summed-refused, summed-done}
 use Rattle.patch.proofs.summing.summary.Statement.{statement}
 use Rattle.patch.proofs.summing.summary.Tie as tie

@@ -1,4 +1,4 @@
--- Both whole numbers of a patch's worst quality are below 2^53, so the page can show it.
+-- Both whole numbers of a row's quality, and so of a patch's worst, are below 2^53: the page can show it.
 use Prim.Native.Nat.{ℕ}
 use mathlib.Core.List.{List, Memᴰ·of-map}
 use mathlib.Core.Option.{Option, none, some, Option·getD}
@@ -12,15 +12,15 @@ use Rattle.measure.proofs.Order.{Fraction, Fractions, worst-is}
 use Rattle.mesh.specs.declared.Row.{Row}
 use Rattle.mesh.specs.Mesh.{place, rowQuality}
 use Rattle.block.specs.Layout.{Patch}
 use Rattle.tally.specs.Summing.{qualities, worstOfPatch}
 use Rattle.tally.specs.Measured.{Measured, patchIn}
 use Rattle.tally.proofs.Bounds.{row-proper, place-within}
 
 module _ (coordinates : List ℕ) (count : ℕ) (table : List ℕ) (n : ℕ) (measured : Measured coordinates count table n) where
   abbrev patch : Patch
   patch = patchIn coordinates count table n
 
-  row-carries : (row : Row) → CarriesOver (rowQuality (patch .points) row)
+  pub row-carries : (row : Row) → CarriesOver (rowQuality (patch .points) row)
   unfolding rowQuality
   row-carries row =
       let at = place (patch .points) in
