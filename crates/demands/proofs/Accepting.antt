@@ -1,36 +1,34 @@
--- What an accepted call leaves: law 6 for each call that writes, law 16, and the room of a 3-2 flip.
-use Prim.Native.Nat.{ℕ, _+_, _-_, _≤_, _<_, min, max}
-use mathlib.Core.Bool.{Bool, true, false, cond}
+-- What an accepted call leaves, for each call that writes, and how many rows there are then.
+use Prim.Native.Nat.{ℕ, _+_, _-_, _≤_, min, max}
+use mathlib.Core.Bool.{true, false, cond}
 use mathlib.Core.List.{List, [], _∷_}
-use mathlib.Core.Path.{_≡_, refl, sym, _∙_}
+use mathlib.Core.Path.{_≡_, refl}
 use native.Mathlib.Omega.{arith}
-use borrow.Author.Tests.{ltb-true, ltb-false, lt-ltb}
+use borrow.Author.Tests.{ltb-false}
 use lib.ListN.{length}
 use Rattle.block.specs.Layout.{maxRows, fieldsOf, bytesOf}
-use Rattle.block.specs.Answers.{Tests, firstRefusal}
-use Rattle.block.proofs.Refusals.{goes-on, refuses}
 use Rattle.block.proofs.Right.{right-block}
 use Rattle.block.proofs.Written.{rows-counted}
 use Rattle.mesh.specs.Mesh.{holdsEdge, holdsFace}
-use Rattle.ring.specs.Ring.{Site, siteOf, m, minRing, lengthWrong, notFlat}
+use Rattle.ring.specs.Ring.{Site, siteOf, m, minRing, notFlat}
 use Rattle.pieces.specs.Triangulation.{newRows, tableAfter, rowsAfter}
 use Rattle.pieces.specs.Admissible.{admissible}
 use Rattle.pieces.specs.Best.{chosen}
 use Rattle.pieces.proofs.Rings.{after-length, after-rows}
-use Rattle.patch.specs.Removing.{noRoom, noWay, noneBetter, patchAfter, totalDiffers, removalTests, removeAnswer, removeBytes, Sound}
+use Rattle.patch.specs.Removing.{noWay, patchAfter, removeAnswer, removeBytes, Sound}
 use Rattle.patch.specs.Flipping.{flip32Answer, flip32Bytes, pairOf, threeRows, patchAfter23, flip23Answer, flip23Bytes}
-use Rattle.demands.specs.Demands.{Accepted, Room}
-use Rattle.patch.proofs.Answering.{Flips23, removes, remove-left, flips-32, flips-23}
+use Rattle.demands.specs.Demands.{Accepted}
+use Rattle.patch.proofs.Answering.{Flips23, removes, flips-32, flips-23}
 use Rattle.demands.proofs.Facing.{Facing, face-apart, facing, flipped-total}
 use Rattle.patch.proofs.Sites.{opens-rule, sound-site}
 use Rattle.demands.proofs.Written.{accepted}
-use Rattle.demands.proofs.Third.{site-total, length-fits, length-passes, some-way, site-chosen}
+use Rattle.demands.proofs.Choosing.{site-total, length-fits, some-way, site-chosen}
 
 module _ (block : List ℕ) (e f : ℕ) (sound : Sound block e f) where
   abbrev site : Site
   site = siteOf (fieldsOf block) e f
 
-  -- ---- law 16
+  -- ---- the rows afterwards
 
   -- the rows afterwards: as many as before, and m - 4, or for a chain m - 3
   pub rows-after : 3 ≤ m site → rowsAfter site ≡ length (fieldsOf block .rows) + m site - cond (site .closed) 4 3
@@ -53,40 +51,6 @@ module _ (block : List ℕ) (e f : ℕ) (sound : Sound block e f) where
       let table = tableAfter site (chosen site) in
       accepted block (sound .opens) table (omega (arith, after-length site (chosen site) (best .way .spans))) (best .way .keeps)
       (holdsEdge (min e f) (max e f)) (newRows site 1 (chosen site)) refl (site-total block e f sound flat (chosen site) (best .way .spans))
-
--- 14 exactly when the rows afterwards would be over 60
-
-not-14 : (way none differs : Bool) → firstRefusal ((15, way) ∷ (16, none) ∷ (17, differs) ∷ []) ≡ 14 → ⊥
-unfolding firstRefusal
-not-14 true none differs h = omega arith
-not-14 false true differs h = omega arith
-not-14 false false true h = omega arith
-not-14 false false false h = omega arith
-
-pub room : Room
-unfolding removalTests
-room block out e f sound size low high flat = (λ h. go (noRoom its) refl (sym first ∙ h), λ h. first ∙ refuses 14 (noRoom its) _ (over h))
-  where
-    its : Site
-    its = siteOf (fieldsOf block) e f
-
-    rest : Tests
-    rest = (15, noWay its) ∷ (16, noneBetter its) ∷ (17, totalDiffers (fieldsOf block) (patchAfter its)) ∷ []
-
-    first : removeAnswer block out e f ≡ firstRefusal ((14, noRoom its) ∷ rest)
-    first =
-        remove-left block out e f sound size
-        ∙ goes-on 13 (lengthWrong its) _ (length-passes its low high) ∙ goes-on 19 (notFlat its) _ flat
-
-    over : maxRows < length (fieldsOf block .rows) + m its - cond (its .closed) 4 3 → noRoom its ≡ true
-    over h = lt-ltb maxRows (rowsAfter its) (omega (arith, rows-after block e f sound low))
-
-    go : (b : Bool) → noRoom its ≡ b → firstRefusal ((14, noRoom its) ∷ rest) ≡ 14
-        → maxRows < length (fieldsOf block .rows) + m its - cond (its .closed) 4 3
-    go true h k = omega (arith, ltb-true maxRows (rowsAfter its) h, rows-after block e f sound low)
-    go false h k =
-        absurd (not-14 (noWay its) (noneBetter its) (totalDiffers (fieldsOf block) (patchAfter its))
-        (sym (goes-on 14 (noRoom its) rest h) ∙ k))
 
 -- ---- the calls
 

@@ -1,40 +1,48 @@
--- Law 19: a 3-2 flip after a 2-3 flip brings back the same two tetrahedra, if the two rows have one region and no row held both apexes.
+-- A 3-2 flip after a 2-3 flip brings back the same two tetrahedra, if the two rows have one region and no row held both apexes.
 -- The three rows are a ring of three with one way to triangulate it, and its two rows are the two that went, evenly rearranged.
-use Prim.Native.Nat.{ℕ, _≤_}
-use mathlib.Core.Bool.{Bool, true, not}
+use Prim.Native.Nat.{ℕ, _≤_, _<_, min, max}
+use mathlib.Core.Bool.{Bool, true, false, not, _&&_}
 use mathlib.Core.List.{List, [], _∷_, _++_, List·Memᴰ, List·Memᴰ·head, List·Memᴰ·tail, List·Memᴰ·not-nil}
 use mathlib.Core.Logic.{_⊎_, inl, inr}
 use mathlib.Core.Path.{_≡_, refl, sym, ap, _∙_, subst}
+use native.Mathlib.Decide.{decLt}
 use native.Mathlib.Omega.{arith}
 use borrow.Author.Tests.{eq-eqb}
 use lib.Dec.{T, T-not, not-T}
 use lib.ListN.{length}
 use Rattle.lists.specs.Lists.{every, any, those}
-use Rattle.lists.proofs.Lists.{any-i, every-i, those-e}
+use Rattle.lists.proofs.Lists.{any-i, any-same, every-i, those-e}
 use Rattle.lists.proofs.Counts.{count-append, count-split}
 use Rattle.mesh.specs.declared.Row.{Row}
-use Rattle.mesh.specs.Mesh.{keepsMeshRule, holdsEdge, holdsFace}
+use Rattle.mesh.specs.Mesh.{keepsMeshRule, holds, holdsEdge, holdsFace}
 use Rattle.mesh.specs.Tetrahedra.{rearranged, SameTetrahedra}
 use Rattle.mesh.proofs.Alike.{same-keeps, same-cons, same-append, same-swap}
 use Rattle.mesh.proofs.Evenly.{even-region}
 use Rattle.block.specs.Layout.{Patch, blockBytes, fieldsOf}
 use Rattle.block.specs.Answers.{firstRefusal}
+use Rattle.block.proofs.Refusals.{number-of}
+use Rattle.block.proofs.Right.{opens, right-block}
 use Rattle.ring.specs.Ring.{Site, siteOf, m, orChains}
 use Rattle.ring.proofs.Smallest.{smallest-le}
 use Rattle.pieces.specs.Triangulation.{side, cut, span, regionOf, tableAfter}
 use Rattle.pieces.specs.Admissible.{admissible}
 use Rattle.pieces.specs.Best.{chosen}
+use Rattle.pieces.proofs.Rings.{RingWay}
 use Rattle.patch.specs.Removing.{Sound}
 use Rattle.patch.specs.Flipping.{flip32Tests, flip32Answer, flip32Bytes, Pair, pairOf, threeRows, patchAfter23}
 use Rattle.patch.specs.Flipping.{flip23Answer, flip23Bytes}
-use Rattle.demands.specs.Demands.{Way, Flipped, BroughtBack}
+use Rattle.demands.specs.Kernels.{ours}
+use Rattle.demands.specs.Orders.{Flipped, BroughtBack}
+use Rattle.demands.specs.FlipWords.{rowsAcross, rowsRound}
 use Rattle.patch.proofs.Answering.{flips-23, flip32-left}
 use Rattle.patch.proofs.Sites.{opens-rule}
 use Rattle.demands.proofs.Written.{patch-is}
-use Rattle.demands.proofs.Third.{way-there, site-chosen}
-use Rattle.demands.proofs.Facing.{Facing}
+use Rattle.demands.proofs.Choosing.{way-there}
+use Rattle.demands.proofs.Facing.{Facing, both-in}
 use Rattle.demands.proofs.Accepting.{flips-facing, flip23-accepted, flip32-accepted}
-use Rattle.demands.proofs.Threes.{rowsRound, three-closed, ring-three, three-pass, three-table, one-tree}
+use Rattle.demands.proofs.Orders.{flip32-answer-swap, flip32-bytes-swap}
+use Rattle.demands.proofs.Apexes.{TwoApexes, two-apexes}
+use Rattle.demands.proofs.Threes.{three-closed, ring-three, three-pass, three-table, three-chosen}
 
 -- a table is what goes and what stays
 same-parts : (p : Row → Bool) (rows : List Row) → SameTetrahedra (those (λ row. not (p row)) rows ++ those p rows) rows
@@ -59,26 +67,16 @@ module _ {count : ℕ} {pair : Pair} {face : List ℕ} (f : Facing count pair fa
       go (first ∷ rows) same k = same first row (List·Memᴰ·head refl) k
 
   abbrev two : List Row
-  two =
-      record { p = pair .a; q = f .t .q; r = f .t .r; s = f .t .s; region = regionOf (pair .removed) }
-      ∷ record { p = f .t .q; q = f .t .r; r = f .t .s; s = pair .b; region = regionOf (pair .removed) } ∷ []
-
-  members : List·Memᴰ (f .rowA) (pair .removed) × List·Memᴰ (f .rowB) (pair .removed)
-  members = go (f .order)
-    where
-      go : (pair .removed ≡ f .rowA ∷ f .rowB ∷ []) ⊎ (pair .removed ≡ f .rowB ∷ f .rowA ∷ [])
-          → List·Memᴰ (f .rowA) (pair .removed) × List·Memᴰ (f .rowB) (pair .removed)
-      go (inl e) = rw e (List·Memᴰ·head refl, List·Memᴰ·tail (List·Memᴰ·head refl))
-      go (inr e) = rw e (List·Memᴰ·tail (List·Memᴰ·head refl), List·Memᴰ·head refl)
+  two = rowsAcross (pair .a) (pair .b) (f .t .q) (f .t .r) (f .t .s) (regionOf (pair .removed))
 
   even-a : T (rearranged (record { p = pair .a; q = f .t .q; r = f .t .r; s = f .t .s; region = regionOf (pair .removed) }) (f .rowA))
   even-a = subst (λ (row : Row). T (rearranged row (f .rowA))) t-is (f .a-row .even)
     where
       t-is : f .t ≡ record { p = pair .a; q = f .t .q; r = f .t .r; s = f .t .s; region = regionOf (pair .removed) }
-      t-is = rw (← (f .at-a), region-is (f .rowA) (members .0), ← (even-region (f .t) (f .rowA) (f .a-row .even)))
+      t-is = rw (← (f .at-a), region-is (f .rowA) (both-in f .0), ← (even-region (f .t) (f .rowA) (f .a-row .even)))
 
   even-b : T (rearranged (record { p = f .t .q; q = f .t .r; r = f .t .s; s = pair .b; region = regionOf (pair .removed) }) (f .rowB))
-  even-b = rw (region-is (f .rowB) (members .1)) (f .b-row)
+  even-b = rw (region-is (f .rowB) (both-in f .1)) (f .b-row)
 
   both : SameTetrahedra two (f .rowA ∷ f .rowB ∷ [])
   both = same-cons _ (f .rowA) _ (f .rowB ∷ []) even-a (same-cons _ (f .rowB) [] [] even-b (λ row. refl))
@@ -164,7 +162,7 @@ module _ (block out other : List ℕ) (x y z : ℕ) (done : flip23Answer block o
 
     sound : Sound between (pair .a) (pair .b)
     sound = record {
-      opens = flip23-accepted block out x y z done .opens;
+      opens = opens between (flip23-accepted block out x y z done .right);
       one =
           rw site-is
           (three-pass (patch .points) (pair .kept) (pair .a) (pair .b) (t .q) (t .r) (t .s) region (f .less) low-r low-s rule none-kept
@@ -201,13 +199,14 @@ module _ (block out other : List ℕ) (x y z : ℕ) (done : flip23Answer block o
       unfolding siteOf
       same-points = ap (λ (patch : Patch). patch .points) fields-between
 
-      the-way : Way site (cut side side)
+      the-way : RingWay site (cut side side)
       unfolding span admissible
-      the-way = (
-        rw three refl,
-        rw (same-keeps (length (site .points)) (tableAfter site (cut side side)) (patch .rows) same-table, same-points)
-            (opens-rule block (flips-23 block out x y z done .opens)),
-      )
+      the-way = record {
+        spans = rw three refl;
+        keeps =
+            rw (same-keeps (length (site .points)) (tableAfter site (cut side side)) (patch .rows) same-table, same-points)
+            (opens-rule block (flips-23 block out x y z done .opens));
+      }
 
       -- answer 0
       back-answer : flip32Answer between other (pair .a) (pair .b) ≡ 0
@@ -217,9 +216,7 @@ module _ (block out other : List ℕ) (x y z : ℕ) (done : flip23Answer block o
           ∙ rw (eq-eqb (m site) 3 three, way-there between (pair .a) (pair .b) sound (omega (arith, three)) (cut side side) the-way)
 
       chosen-is : chosen site ≡ cut side side
-      chosen-is =
-          let best = site-chosen between (pair .a) (pair .b) sound (omega (arith, three)) (cut side side) the-way in
-          one-tree (chosen site) (omega (arith, three, best .way .spans))
+      chosen-is = three-chosen between (pair .a) (pair .b) sound three (cut side side) the-way
 
       -- and the same tetrahedra
       back-rows : SameTetrahedra (fieldsOf (flip32Bytes between other (pair .a) (pair .b)) .rows) (patch .rows)
@@ -229,8 +226,70 @@ module _ (block out other : List ℕ) (x y z : ℕ) (done : flip23Answer block o
           let rows = made .rows ∙ ap (tableAfter site) chosen-is in
           subst (λ rows. SameTetrahedra rows (patch .rows)) (sym rows) same-table
 
-pub brought-back : (block out other : List ℕ) (x y z : ℕ) → Flipped block out other x y z → BroughtBack block out other x y z
-brought-back block out other x y z given = record {
-  answer = back-answer block out other x y z (given .done) (given .right-length) (given .none-held) (given .one-region);
-  tetrahedra = back-rows block out other x y z (given .done) (given .right-length) (given .none-held) (given .one-region);
-}
+-- ---- the apexes by words, in either order
+
+-- what does not go by the order of two numbers has the same value for the two in order
+in-order : {A : Type 0} (g : ℕ → ℕ → A) → ((m n : ℕ) → g m n ≡ g n m) → (a b : ℕ) → g (min a b) (max a b) ≡ g a b
+in-order g swap a b = go (decLt b a)
+  where
+    go : Dec (b < a) → g (min a b) (max a b) ≡ g a b
+    go (yes h) =
+        let low : min a b ≡ b = omega arith in
+        let high : max a b ≡ a = omega arith in
+        rw (low, high) (swap b a)
+    go (no h) =
+        let low : min a b ≡ a = omega arith in
+        let high : max a b ≡ b = omega arith in
+        rw (low, high)
+
+edge-either : (rows : List Row) (m n : ℕ) → any (holdsEdge m n) rows ≡ any (holdsEdge n m) rows
+edge-either rows m n = any-same (holdsEdge m n) (holdsEdge n m) rows (λ row k. and-swap (holds row m) (holds row n))
+  where
+    and-swap : (p q : Bool) → p && q ≡ q && p
+    and-swap true true = refl
+    and-swap true false = refl
+    and-swap false true = refl
+    and-swap false false = refl
+
+module _ (block out other : List ℕ) (x y z a b : ℕ) (given : Flipped ours block out other x y z a b) where
+  abbrev its : Pair
+  its = pairOf (fieldsOf block) (x ∷ y ∷ z ∷ [])
+
+  was-done : flip23Answer block out x y z ≡ 0
+  unfolding ours
+  was-done = sym (number-of _) ∙ given .done
+
+  apexes : TwoApexes (fieldsOf block) (x ∷ y ∷ z ∷ []) a b
+  apexes = two-apexes block x y z a b (right-block block (flips-23 block out x y z was-done .opens)) (given .apexes)
+
+  -- by the apexes that the flip finds, or by the two given
+  by-words : {A : Type 0} (g : ℕ → ℕ → A) → ((m n : ℕ) → g m n ≡ g n m) → g (its .a) (its .b) ≡ g a b
+  by-words g swap = rw (apexes .low, apexes .high) (in-order g swap a b)
+
+  none-held : T (not (any (holdsEdge (its .a) (its .b)) (fieldsOf block .rows)))
+  none-held = rw (by-words (λ m n. any (holdsEdge m n) (fieldsOf block .rows)) (edge-either (fieldsOf block .rows))) (given .none-held)
+
+  one-region : (s t : Row) → List·Memᴰ s (its .removed) → List·Memᴰ t (its .removed) → s .region ≡ t .region
+  unfolding pairOf
+  one-region s t k i =
+      let (s-in, s-held) = those-e (holdsFace (x ∷ y ∷ z ∷ [])) (fieldsOf block .rows) k in
+      let (t-in, t-held) = those-e (holdsFace (x ∷ y ∷ z ∷ [])) (fieldsOf block .rows) i in
+      given .one-region s t s-in t-in s-held t-held
+
+  given-answer : flip32Answer (flip23Bytes block out x y z) other a b ≡ 0
+  given-answer =
+      let between = flip23Bytes block out x y z in
+      sym (by-words (flip32Answer between other) (flip32-answer-swap between other))
+      ∙ back-answer block out other x y z was-done (given .right-length) none-held one-region
+
+  given-rows : SameTetrahedra (fieldsOf (flip32Bytes (flip23Bytes block out x y z) other a b) .rows) (fieldsOf block .rows)
+  given-rows =
+      let between = flip23Bytes block out x y z in
+      subst (λ bytes. SameTetrahedra (fieldsOf bytes .rows) (fieldsOf block .rows))
+      (by-words (flip32Bytes between other) (flip32-bytes-swap between other))
+      (back-rows block out other x y z was-done (given .right-length) none-held one-region)
+
+pub brought-back : BroughtBack ours
+unfolding ours
+brought-back block out other x y z a b given =
+    (number-of _ ∙ given-answer block out other x y z a b given, given-rows block out other x y z a b given)

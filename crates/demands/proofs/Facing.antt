@@ -1,9 +1,9 @@
 -- The two rows of a 2-3 flip that is not refused, and its three new rows: the total D stays by the identity of five points.
 use Prim.Native.Nat.{ℕ, _<_}
 use mathlib.Core.Bool.{false, _&&_}
-use mathlib.Core.List.{List, [], _∷_}
+use mathlib.Core.List.{List, [], _∷_, List·Memᴰ, List·Memᴰ·head, List·Memᴰ·tail}
 use mathlib.Core.Logic.{_⊎_, inl, inr}
-use mathlib.Core.Path.{_≡_, sym, ap, _∙_}
+use mathlib.Core.Path.{_≡_, refl, sym, ap, _∙_}
 use native.Mathlib.Omega.{arith}
 use borrow.Author.Tests.{not-false}
 use lib.Dec.{T, ltb}
@@ -39,6 +39,16 @@ pub record Facing (count : ℕ) (pair : Pair) (face : List ℕ) : Type 0 where
   pub at-a : t .p ≡ pair .a
   pub less : pair .a < pair .b
   pub b-row : T (rearranged (record { p = t .q; q = t .r; r = t .s; s = pair .b; region = rowB .region }) rowB)
+
+-- both stand among the rows that go
+pub both-in : {count : ℕ} {pair : Pair} {face : List ℕ} (f : Facing count pair face)
+    → List·Memᴰ (f .rowA) (pair .removed) × List·Memᴰ (f .rowB) (pair .removed)
+both-in {pair = pair} f = go (f .order)
+  where
+    go : (pair .removed ≡ f .rowA ∷ f .rowB ∷ []) ⊎ (pair .removed ≡ f .rowB ∷ f .rowA ∷ [])
+        → List·Memᴰ (f .rowA) (pair .removed) × List·Memᴰ (f .rowB) (pair .removed)
+    go (inl e) = rw e (List·Memᴰ·head refl, List·Memᴰ·tail (List·Memᴰ·head refl))
+    go (inr e) = rw e (List·Memᴰ·tail (List·Memᴰ·head refl), List·Memᴰ·head refl)
 
 -- answer 9 not given: the numbers are all different
 pub face-apart : (count : ℕ) (face : List ℕ) → numbersWrong count face ≡ false → T (different face)

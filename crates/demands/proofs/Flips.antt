@@ -2,7 +2,7 @@
 -- the one number that the face has not, and a's row, evenly rearranged, gives the same v and w.
 use Prim.Native.Nat.{ℕ}
 use mathlib.Core.Bool.{Bool, true, false, cond, not}
-use mathlib.Core.List.{List, [], _∷_, _++_, map, List·Memᴰ, List·Memᴰ·head, List·Memᴰ·tail, List·Memᴰ·not-nil, Memᴰ·map, Memᴰ·of-map}
+use mathlib.Core.List.{List, [], _∷_, _++_, map, List·Memᴰ, List·Memᴰ·head, List·Memᴰ·not-nil, Memᴰ·map, Memᴰ·of-map}
 use mathlib.Core.List.{map-append}
 use mathlib.Core.Logic.{_⊎_, inl, inr}
 use mathlib.Core.Path.{_≡_, refl, sym, ap, _∙_, subst}
@@ -23,20 +23,25 @@ use Rattle.mesh.proofs.Evenly.{even-holds, even-proper}
 use Rattle.mesh.proofs.Places.{even-trans, even-sym}
 use Rattle.mesh.proofs.Regions.{keeps-numbers}
 use Rattle.block.specs.Layout.{maxRows, fieldsOf}
-use Rattle.block.specs.Answers.{Tests, firstRefusal, notBlock}
-use Rattle.block.proofs.Refusals.{passed, refuses}
+use Rattle.block.specs.Answers.{Tests, firstRefusal, notBlock, answerOf}
+use Rattle.block.proofs.Refusals.{passed, refuses, number-of}
+use Rattle.block.proofs.Right.{opens}
 use Rattle.ring.specs.Ring.{Link, link, numbersWrong}
 use Rattle.ring.proofs.Linking.{link-is}
 use Rattle.ring.proofs.Smallest.{smallest-same}
 use Rattle.ring.proofs.Order.{row-across}
 use Rattle.pieces.proofs.Across.{those-across, length-across}
 use Rattle.patch.specs.Flipping.{apexOver, Pair, pairOf, threeRows, patchAfter23, flip23Tests, flip23Answer}
-use Rattle.demands.specs.Demands.{SameMesh, AnyRowOrder23}
+use Rattle.patch.specs.Flipping.{flip23Bytes}
+use Rattle.demands.specs.Kernels.{ours}
+use Rattle.demands.specs.Orders.{SameMesh, SameOutput, AnyRowOrder}
 use Rattle.patch.proofs.Answering.{same-behind, block-opened, flips-23}
-use Rattle.patch.proofs.Sites.{opens-rule}
 use Rattle.demands.proofs.Pairs.{Over}
-use Rattle.demands.proofs.Rows.{other-way}
-use Rattle.demands.proofs.Facing.{Facing, face-apart, all-over, facing}
+use Rattle.demands.proofs.Rows.{other-way, same-output, remove-answer-same, ring-given-same, remove-output-same}
+use Rattle.demands.proofs.Rows.{flip32-answer-same, flip32-output-same}
+use Rattle.demands.proofs.Accepting.{flip23-accepted}
+use Rattle.demands.proofs.First.{remove-number}
+use Rattle.demands.proofs.Facing.{Facing, both-in, face-apart, all-over, facing}
 
 -- the apex of a row over a face is that of the row, evenly rearranged
 apex-even : {count its : ℕ} {face : List ℕ} {u : ℕ} {row other t s : Row} → Over count face u row t → Over its face u other s
@@ -91,8 +96,8 @@ module _ (block other : List ℕ) (x y z : ℕ) (same : SameMesh block other) wh
   apexes-to apart n k =
       let (row, i, e) = Memᴰ·of-map (apexOver face) (left .removed) k in
       let (u, j, even) = row-across (left .removed) (right .removed) row removed-same i in
-      let one = all-over countLeft (fieldsOf block) face refl apart (opens-rule block (same .opens)) .over row i in
-      let two = all-over countRight (fieldsOf other) face refl apart (opens-rule other (same .other-opens)) .over u j in
+      let one = all-over countLeft (fieldsOf block) face refl apart (same .right .body .rule) .over row i in
+      let two = all-over countRight (fieldsOf other) face refl apart (same .other-right .body .rule) .over u j in
       subst (λ n. List·Memᴰ n (map (apexOver face) (right .removed))) (sym (apex-even one two even) ∙ e) (Memᴰ·map (apexOver face) j)
 
 -- ---- the same apexes, and the same three rows
@@ -144,17 +149,10 @@ module _ (block other : List ℕ) (x y z : ℕ) (same : SameMesh block other) wh
               in-cases (subst (List·Memᴰ row) e k) (λ q. absurd (not-b (subst (λ (row : Row). T (holds row (here .a))) q h)))
               λ k. in-cases k (λ q. q) (λ k. absurd (List·Memᴰ·not-nil k))
 
-      a-in : List·Memᴰ (f .rowA) (here .removed)
-      a-in = go (f .order)
-        where
-          go : (here .removed ≡ f .rowA ∷ f .rowB ∷ []) ⊎ (here .removed ≡ f .rowB ∷ f .rowA ∷ []) → List·Memᴰ (f .rowA) (here .removed)
-          go (inl e) = rw e (List·Memᴰ·head refl)
-          go (inr e) = rw e (List·Memᴰ·tail (List·Memᴰ·head refl))
-
       -- a's rows are one tetrahedron
       a-even : T (rearranged (f .t) (g .rowA))
       a-even =
-          let (u, k, even) = row-across (here .removed) (there .removed) (f .rowA) (removed-same block other x y z same) a-in in
+          let (u, k, even) = row-across (here .removed) (there .removed) (f .rowA) (removed-same block other x y z same) (both-in f .0) in
           let up = even-trans (f .t) (f .rowA) u (f .a-row .even) even in
           let held = subst T (even-holds (f .t) u up (here .a)) (has-i (numbers (f .t)) (List·Memᴰ·head (sym (f .at-a)))) in
           subst (λ (row : Row). T (rearranged (f .t) row)) (is-a u k held) up
@@ -223,8 +221,8 @@ module _ (block other : List ℕ) (x y z : ℕ) (same : SameMesh block other) wh
       let size = length-across (here .removed) (there .removed) (removed-same block other x y z same) in
       let a = a-same apart in
       let b = b-same apart in (
-        facing (length (fieldsOf block .points)) (fieldsOf block) list refl apart (opens-rule block (same .opens)) none one ends,
-        facing (length (fieldsOf other .points)) (fieldsOf other) list refl apart (opens-rule other (same .other-opens))
+        facing (length (fieldsOf block .points)) (fieldsOf block) list refl apart (same .right .body .rule) none one ends,
+        facing (length (fieldsOf other .points)) (fieldsOf other) list refl apart (same .other-right .body .rule)
             (λ e. none (size ∙ e)) (λ e. one (size ∙ e)) (λ e. ends (a ∙ e ∙ sym b)),
       )
 
@@ -252,19 +250,37 @@ module _ (block other : List ℕ) (x y z : ℕ) (same : SameMesh block other) wh
           rw (after-length apart, after-keeps apart f g))
           ∙ ap (λ (tests : Tests). firstRefusal (tests ++ last other)) (before-same apart)
 
-pub any-row-order-23 : (block other out : List ℕ) (x y z : ℕ) → SameMesh block other → AnyRowOrder23 block other out x y z
-unfolding flip23Answer firstRefusal
-any-row-order-23 block other out x y z same =
-    let face : List ℕ = x ∷ y ∷ z ∷ [] in
-    record {
-      answer =
-          block-opened block out (flip23Tests (fieldsOf block) face) (same .opens)
-          ∙ ap (λ n. cond (notBlock out) 1 n) (tests-same block other x y z same)
-          ∙ sym (block-opened other out (flip23Tests (fieldsOf other) face) (same .other-opens));
-      kept = kept-same block other x y z same;
-      new-rows = λ done.
-          let r = flips-23 block out x y z done in
-          let apart = face-apart (length (fieldsOf block .points)) face (r .numbers) in
-          let (f, g) = both-face block other x y z same apart (r .some-row) (r .no-single) (r .apart) in
-          three-same block other x y z same apart f g;
-    }
+module _ (block other out : List ℕ) (x y z : ℕ) (same : SameMesh block other) where
+  flip23-answer-same : flip23Answer block out x y z ≡ flip23Answer other out x y z
+  unfolding flip23Answer firstRefusal
+  flip23-answer-same =
+      let face : List ℕ = x ∷ y ∷ z ∷ [] in
+      block-opened block out (flip23Tests (fieldsOf block) face) (opens block (same .right))
+      ∙ ap (λ n. cond (notBlock out) 1 n) (tests-same block other x y z same)
+      ∙ sym (block-opened other out (flip23Tests (fieldsOf other) face) (opens other (same .other-right)))
+
+  flip23-output-same : flip23Answer block out x y z ≡ 0
+      → SameOutput (holdsFace (x ∷ y ∷ z ∷ [])) block other (flip23Bytes block out x y z) (flip23Bytes other out x y z)
+  unfolding pairOf
+  flip23-output-same done =
+      let face : List ℕ = x ∷ y ∷ z ∷ [] in
+      let r = flips-23 block out x y z done in
+      let apart = face-apart (length (fieldsOf block .points)) face (r .numbers) in
+      let (f, g) = both-face block other x y z same apart (r .some-row) (r .no-single) (r .apart) in
+      same-output (holdsFace face) _ _ (flip23-accepted block out x y z done .rows)
+      (flip23-accepted other out x y z (sym flip23-answer-same ∙ done) .rows) (kept-same block other x y z same)
+      (three-same block other x y z same apart f g)
+
+pub any-row-order : AnyRowOrder ours
+unfolding ours
+any-row-order = record {
+  remove-answer = λ block other out e f same. rw (remove-number block out e f, remove-number other out e f)
+      (remove-answer-same block other out e f same);
+  ring = ring-given-same;
+  remove-output = λ block other out e f same done.
+      remove-output-same block other out e f same (sym (remove-number block out e f) ∙ done);
+  flip32-answer = λ block other out e f same. ap answerOf (flip32-answer-same block other out e f same);
+  flip32-output = λ block other out e f same done. flip32-output-same block other out e f same (sym (number-of _) ∙ done);
+  flip23-answer = λ block other out x y z same. ap answerOf (flip23-answer-same block other out x y z same);
+  flip23-output = λ block other out x y z same done. flip23-output-same block other out x y z same (sym (number-of _) ∙ done);
+}

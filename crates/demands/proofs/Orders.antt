@@ -1,4 +1,4 @@
--- Law 17: a removal and a 3-2 flip do not depend on the order of the ends, nor a 2-3 flip on the order of its three numbers.
+-- A removal and a 3-2 flip do not depend on the order of the ends, nor a 2-3 flip on the order of its three numbers.
 use Prim.Native.Nat.{ℕ, zero, suc, _<_, max}
 use mathlib.Core.Bool.{Bool, not}
 use mathlib.Core.List.{List, [], _∷_, map, foldr, List·Memᴰ, List·Memᴰ·head, List·Memᴰ·tail, List·Memᴰ·not-nil}
@@ -20,7 +20,8 @@ use Rattle.ring.proofs.Smallest.{smallest-in, smallest-le, smallest-is}
 use Rattle.patch.specs.Removing.{removeAnswer, removeBytes, removeGives}
 use Rattle.patch.specs.Flipping.{flip32Answer, flip32Bytes, apexOver, Pair, pairOf, threeRows, patchAfter23, flip23Tests}
 use Rattle.patch.specs.Flipping.{flip23Answer, flip23Bytes}
-use Rattle.demands.specs.Demands.{EitherOrder}
+use Rattle.demands.specs.Kernels.{ours}
+use Rattle.demands.specs.Orders.{EitherOrder}
 use Rattle.demands.proofs.First.{gives-done, gives-refused}
 
 -- ---- the ends
@@ -45,11 +46,11 @@ module _ (block out : List ℕ) (e f : ℕ) where
       go zero h = gives-done block out e f (remove-answer-swap ∙ h) ∙ rw (site-swap (fieldsOf block) e f) (sym (gives-done block out f e h))
       go (suc n) h = gives-refused block out e f n (remove-answer-swap ∙ h) ∙ sym (gives-refused block out f e n h)
 
-  flip32-answer-swap : flip32Answer block out e f ≡ flip32Answer block out f e
+  pub flip32-answer-swap : flip32Answer block out e f ≡ flip32Answer block out f e
   unfolding flip32Answer
   flip32-answer-swap = rw (site-swap (fieldsOf block) e f, edge-swap ringsAlone (siteOf (fieldsOf block) f e) e f)
 
-  flip32-bytes-swap : flip32Bytes block out e f ≡ flip32Bytes block out f e
+  pub flip32-bytes-swap : flip32Bytes block out e f ≡ flip32Bytes block out f e
   unfolding flip32Bytes
   flip32-bytes-swap = rw (flip32-answer-swap, site-swap (fieldsOf block) e f)
 
@@ -186,15 +187,11 @@ module _ (block out : List ℕ) (x y z : ℕ) where
   unfolding flip23Bytes
   flip23-bytes-turn = rw (flip23-answer-turn, patch-over _ _ (turned x y z) (fieldsOf block))
 
-pub either-order : EitherOrder
+pub either-order : EitherOrder ours
+unfolding ours
 either-order = record {
-  remove-answer = remove-answer-swap;
-  remove-bytes = remove-bytes-swap;
-  remove-gives = remove-gives-swap;
-  flip32-answer = flip32-answer-swap;
-  flip32-bytes = flip32-bytes-swap;
-  exchanged-answer = flip23-answer-swap;
-  exchanged-bytes = flip23-bytes-swap;
-  turned-answer = flip23-answer-turn;
-  turned-bytes = flip23-bytes-turn;
+  remove = λ block out e f. rw (remove-gives-swap block out e f, remove-bytes-swap block out e f);
+  flip32 = λ block out e f. rw (flip32-answer-swap block out e f, flip32-bytes-swap block out e f);
+  exchanged = λ block out x y z. rw (flip23-answer-swap block out x y z, flip23-bytes-swap block out x y z);
+  turned = λ block out x y z. rw (flip23-answer-turn block out x y z, flip23-bytes-turn block out x y z);
 }

@@ -1,6 +1,6 @@
 -- The order of the rows and their even arrangement change no answer of a removal or a 3-2 flip: the ring or chain is the same, the kept
 -- rows are the same tetrahedra, so the same ways are admissible with the same worst, and the worst row round the edge is one fraction.
-use Prim.Native.Nat.{ℕ, _-_, _≤_, min, max}
+use Prim.Native.Nat.{ℕ, zero, suc, _-_, _≤_, min, max}
 use mathlib.Core.Bool.{Bool, true, false, cond, not, _&&_, _||_}
 use mathlib.Core.List.{List, [], _∷_, _++_, append-assoc, map, Memᴰ·map, Memᴰ·of-map}
 use mathlib.Core.Path.{_≡_, refl, sym, ap, _∙_, subst}
@@ -8,7 +8,8 @@ use native.Mathlib.Omega.{arith}
 use borrow.Author.Tests.{eqb-true, eqb-false, eq-eqb}
 use lib.Dec.{T, eqb, ltb}
 use lib.ListN.{length, take}
-use Rattle.lists.specs.Lists.{every, any, different}
+use lib.Seq.{take-append-seam, drop-append-seam}
+use Rattle.lists.specs.Lists.{every, any, those, different}
 use Rattle.lists.proofs.Tests.{same-test}
 use Rattle.lists.proofs.Lists.{every-at, every-i, any-same}
 use Rattle.measure.specs.Measure.{worse, worst}
@@ -22,8 +23,10 @@ use Rattle.mesh.proofs.Measured.{even-quality}
 use Rattle.block.specs.Layout.{fieldsOf}
 use Rattle.block.specs.Answers.{Tests, firstRefusal, notBlock}
 use Rattle.block.proofs.Refusals.{passed, refuses}
+use Rattle.block.proofs.Right.{opens}
 use Rattle.ring.specs.Ring.{Site, siteOf, m, flat, minRing, maxRing, numbersWrong, ringsAlone, orChains, lengthWrong, notFlat}
-use Rattle.ring.specs.Ring.{edgeTests}
+use Rattle.ring.specs.declared.Ring.{Ring}
+use Rattle.ring.specs.Ring.{edgeTests, ringWith}
 use Rattle.ring.proofs.Order as Order
 use Rattle.ring.proofs.Order.{row-across, same-closed, same-tests}
 use Rattle.ring.specs.Found.{ringTests}
@@ -37,13 +40,16 @@ use Rattle.pieces.proofs.Rings.{way-listed, listed-way}
 use Rattle.pieces.proofs.Across.{those-across, length-across}
 use Rattle.pieces.proofs.Kindred.{kin, piece-same, shut-same, worst-same, rows-same}
 use Rattle.patch.specs.Removing.{blockTests, worstNow, noRoom, noWay, noneBetter, patchAfter, totalDiffers, removalTests}
-use Rattle.patch.specs.Removing.{removeAnswer, Sound}
-use Rattle.patch.specs.Flipping.{flip32Tests, flip32Answer}
-use Rattle.demands.specs.Demands.{SameMesh, AnyRowOrder}
-use Rattle.patch.proofs.Answering.{same-behind, block-opened, taken}
-use Rattle.patch.proofs.Sites.{opens-rule, sound-site}
-use Rattle.demands.proofs.Third.{length-fits, some-way, site-chosen, total-stays}
+use Rattle.patch.specs.declared.Removed.{Removed}
+use Rattle.patch.specs.Removing.{removeAnswer, removeBytes, removeGives, Sound}
+use Rattle.patch.specs.Flipping.{flip32Tests, flip32Answer, flip32Bytes}
+use Rattle.demands.specs.Orders.{SameMesh, SameOutput}
+use Rattle.patch.proofs.Answering.{same-behind, block-opened, taken, removes, flips-32}
+use Rattle.patch.proofs.Sites.{sound-site, ends-fit}
+use Rattle.demands.proofs.Choosing.{length-fits, some-way, site-chosen, total-stays}
 use Rattle.demands.proofs.Standing.{worst-now}
+use Rattle.demands.proofs.First.{gives-done, gives-refused}
+use Rattle.demands.proofs.Accepting.{remove-accepted, flip32-accepted}
 
 -- ---- two sites alike: what the answers 15 and 16 go by
 
@@ -118,12 +124,12 @@ module _ (block other : List ℕ) (e f : ℕ) (same : SameMesh block other) wher
     ring-same : site .ring ≡ its .ring
     ring-same =
         Order.same-ring (length (fieldsOf block .points)) (fieldsOf block) (fieldsOf other) e f apart
-        (opens-rule block (same .opens)) (same .tetrahedra)
+        (same .right .body .rule) (same .tetrahedra)
 
     closed-same : site .closed ≡ its .closed
     closed-same =
         same-closed (length (fieldsOf block .points)) (fieldsOf block) (fieldsOf other) e f apart
-        (opens-rule block (same .opens)) (same .tetrahedra)
+        (same .right .body .rule) (same .tetrahedra)
 
     abbrev kindred : Site
     kindred = kin site (its .removed) (its .kept) (its .links) kept-same
@@ -142,7 +148,7 @@ module _ (block other : List ℕ) (e f : ℕ) (same : SameMesh block other) wher
     edge-same chains =
         ap (λ (tests : Tests). (9, numbersWrong (length (site .points)) (e ∷ f ∷ [])) ∷ take 3 tests)
         (same-tests (length (fieldsOf block .points)) (fieldsOf block) (fieldsOf other) e f apart
-        (opens-rule block (same .opens)) (same .tetrahedra) chains)
+        (same .right .body .rule) (same .tetrahedra) chains)
         ∙ ap (λ (points : List Point). (9, numbersWrong (length points) (e ∷ f ∷ [])) ∷ take 3 (ringTests chains its)) (sym points-same)
 
     length-same : lengthWrong site ≡ lengthWrong its
@@ -194,8 +200,8 @@ module _ (block other : List ℕ) (e f : ℕ) (same : SameMesh block other) wher
 
 pub other-way : {block other : List ℕ} → SameMesh block other → SameMesh other block
 other-way same = record {
-  opens = same .other-opens;
-  other-opens = same .opens;
+  right = same .other-right;
+  other-right = same .right;
   points = sym (same .points);
   tetrahedra = λ row. sym (same .tetrahedra row);
 }
@@ -299,9 +305,9 @@ edge-then : (chains : Bool) (block other out : List ℕ) (e f : ℕ) → SameMes
 unfolding firstRefusal
 edge-then chains block other out e f same rest its-rest behind =
     ap firstRefusal (append-assoc (blockTests block out) (edges block) rest)
-    ∙ block-opened block out (edges block ++ rest) (same .opens)
+    ∙ block-opened block out (edges block ++ rest) (opens block (same .right))
     ∙ ap (λ n. cond (notBlock out) 1 n) (go (eqb e f) refl)
-    ∙ sym (block-opened other out (edges other ++ its-rest) (same .other-opens))
+    ∙ sym (block-opened other out (edges other ++ its-rest) (opens other (same .other-right)))
     ∙ sym (ap firstRefusal (append-assoc (blockTests other out) (edges other) its-rest))
   where
     edges : List ℕ → Tests
@@ -315,20 +321,66 @@ edge-then chains block other out e f same rest its-rest behind =
         same-behind (edges block) rest its-rest
         (λ passes.
         let one = taken chains (siteOf (fieldsOf block) e f) e f passes .0 in
-        behind apart (record { opens = same .opens; one = one })
-        (record { opens = same .other-opens; one = rw (← (edge-same block other e f same apart orChains)) one }))
+        behind apart (record { opens = opens block (same .right); one = one })
+        (record { opens = opens other (same .other-right); one = rw (← (edge-same block other e f same apart orChains)) one }))
         ∙ ap (λ tests. firstRefusal (tests ++ its-rest)) tests
 
-pub any-row-order : (block other out : List ℕ) (e f : ℕ) → SameMesh block other → AnyRowOrder block other out e f
-unfolding removeAnswer flip32Answer
-any-row-order block other out e f same = record {
-  remove-answer =
+-- ---- the calls
+
+-- two tables, each the rows that stay and the others behind them
+pub same-output : {block other output its-output : List ℕ} (goes : Row → Bool) (new its-new : List Row)
+    → fieldsOf output .rows ≡ those (λ row. not (goes row)) (fieldsOf block .rows) ++ new
+    → fieldsOf its-output .rows ≡ those (λ row. not (goes row)) (fieldsOf other .rows) ++ its-new
+    → SameTetrahedra (those (λ row. not (goes row)) (fieldsOf block .rows)) (those (λ row. not (goes row)) (fieldsOf other .rows))
+    → map numbers new ≡ map numbers its-new → SameOutput goes block other output its-output
+same-output {block} {other} {output} {its-output} goes new its-new rows its-rows kept fresh =
+    let stay = those (λ row. not (goes row)) (fieldsOf block .rows) in
+    let its-stay = those (λ row. not (goes row)) (fieldsOf other .rows) in
+    record {
+      stayed = rw (rows, its-rows, take-append-seam stay new, take-append-seam its-stay its-new) kept;
+      behind = rw (rows, its-rows, drop-append-seam stay new, drop-append-seam its-stay its-new) fresh;
+    }
+
+module _ (block other out : List ℕ) (e f : ℕ) (same : SameMesh block other) where
+  pub remove-answer-same : removeAnswer block out e f ≡ removeAnswer other out e f
+  unfolding removeAnswer
+  remove-answer-same =
       edge-then orChains block other out e f same _ _
-      (λ apart sound its-sound. removal-same block other e f same apart sound its-sound);
-  flip32-answer =
+      (λ apart sound its-sound. removal-same block other e f same apart sound its-sound)
+
+  pub flip32-answer-same : flip32Answer block out e f ≡ flip32Answer other out e f
+  unfolding flip32Answer
+  flip32-answer-same =
       edge-then ringsAlone block other out e f same _ _
-      (λ apart sound its-sound. flip-same block other e f same apart sound its-sound);
-  ring = ring-same block other e f same;
-  kept = kept-same block other e f same;
-  new-rows = numbers-of block other e f same;
-}
+      (λ apart sound its-sound. flip-same block other e f same apart sound its-sound)
+
+  -- a refusal returns no ring
+  pub ring-given-same : removeGives block out e f .ring ≡ removeGives other out e f .ring
+  ring-given-same = go (removeAnswer block out e f) refl
+    where
+      ring-in : Removed → Ring
+      ring-in given = given .ring
+
+      go : (n : ℕ) → removeAnswer block out e f ≡ n → removeGives block out e f .ring ≡ removeGives other out e f .ring
+      go zero h =
+          ap ring-in (gives-done block out e f h)
+          ∙ ap ringWith (ring-same block other e f same (ends-fit block e f (removes block out e f h .sound) .2))
+          ∙ sym (ap ring-in (gives-done other out e f (sym remove-answer-same ∙ h)))
+      go (suc n) h =
+          ap ring-in (gives-refused block out e f n h) ∙ sym (ap ring-in (gives-refused other out e f n (sym remove-answer-same ∙ h)))
+
+  pub remove-output-same : removeAnswer block out e f ≡ 0
+      → SameOutput (holdsEdge (min e f) (max e f)) block other (removeBytes block out e f) (removeBytes other out e f)
+  unfolding siteOf
+  remove-output-same done =
+      same-output (holdsEdge (min e f) (max e f)) _ _ (remove-accepted block out e f done .rows)
+      (remove-accepted other out e f (sym remove-answer-same ∙ done) .rows) (kept-same block other e f same)
+      (numbers-of block other e f same (ends-fit block e f (removes block out e f done .sound) .2))
+
+  pub flip32-output-same : flip32Answer block out e f ≡ 0
+      → SameOutput (holdsEdge (min e f) (max e f)) block other (flip32Bytes block out e f) (flip32Bytes other out e f)
+  unfolding siteOf
+  flip32-output-same done =
+      same-output (holdsEdge (min e f) (max e f)) _ _ (flip32-accepted block out e f done .rows)
+      (flip32-accepted other out e f (sym flip32-answer-same ∙ done) .rows) (kept-same block other e f same)
+      (numbers-of block other e f same (ends-fit block e f (flips-32 block out e f done .sound) .2))

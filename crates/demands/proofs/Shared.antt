@@ -1,4 +1,4 @@
--- Law 18: under the mesh rule a face stands in at most two rows; and with two, a and b are their apexes, so nothing stands in for them.
+-- Under the mesh rule a face stands in at most two rows; and with two, a and b are their apexes, so nothing stands in for them.
 -- A proper row that holds three numbers, arranged to begin with two of them, has the third in one of two places:
 -- it uses the face one way or the other.
 use Prim.Native.Nat.{ℕ, _+_, _≤_, min, max}
@@ -48,7 +48,7 @@ module _ (x y z : ℕ) (x-y : x ≡ y → ⊥) (x-z : x ≡ z → ⊥) (y-z : y 
       (uses-i (x, y, z) (t .p, t .q, t .s) t (List·Memᴰ·tail (List·Memᴰ·tail (List·Memᴰ·head refl))) (as-is (sym p) (sym q) i))))
 
 -- more pass a weaker test
-count-weaker : {A : Type 0} (p q : A → Bool) → ((x : A) → T (p x) → T (q x)) → (xs : List A) → count p xs ≤ count q xs
+pub count-weaker : {A : Type 0} (p q : A → Bool) → ((x : A) → T (p x) → T (q x)) → (xs : List A) → count p xs ≤ count q xs
 unfolding those
 count-weaker p q f [] = omega arith
 count-weaker p q f (x ∷ xs) = rw (count-cons p x xs, count-cons q x xs) (go (p x) (q x) (f x) (count-weaker p q f xs))

@@ -1,4 +1,4 @@
--- Law 22: what stands in where a list is empty never binds where it is met, and the printed `after` is the summary of the written block.
+-- What stands in where a list is empty never binds where it is met, and the printed `after` is the summary of the written block.
 use Prim.Native.Nat.{ℕ, _<_, min, max}
 use mathlib.Core.List.{List, [], _∷_, map}
 use mathlib.Core.Option.{some, Option·getD}
@@ -8,23 +8,27 @@ use lib.ListN.{length, getD}
 use Rattle.lists.proofs.Lists.{those-split}
 use Rattle.measure.specs.declared.Quality.{Quality}
 use Rattle.measure.specs.Measure.{worst, zeroQuality}
+use Rattle.measure.specs.Page.{shown, pageRow}
 use Rattle.mesh.specs.declared.Row.{Row}
 use Rattle.mesh.specs.Mesh.{rowQuality, holdsEdge}
 use Rattle.lists.proofs.Places.{getD-inside}
 use Rattle.block.specs.Layout.{fieldsOf}
 use Rattle.block.specs.Answers.{openAnswer}
-use Rattle.ring.specs.Ring.{Site, siteOf}
+use Rattle.block.proofs.Right.{opens}
+use Rattle.ring.specs.Ring.{Site, siteOf, ringWith}
 use Rattle.pieces.specs.Triangulation.{regionOf, tableAfter}
 use Rattle.pieces.specs.Best.{chosen}
 use Rattle.pieces.proofs.Rings.{after-length}
 use Rattle.tally.specs.Summing.{qualities, summaryOf, worstOfPatch}
 use Rattle.patch.specs.declared.Summarised.the-variants.{Summary as Summed}
+use Rattle.patch.specs.declared.Removal.the-variants.{Done}
 use Rattle.patch.specs.Summing.{summaryGives}
-use Rattle.patch.specs.Removing.{worstNow, patchAfter, removeAnswer, removeBytes, Sound}
+use Rattle.patch.specs.Removing.{worstNow, patchAfter, removeAnswer, removeBytes, removeGives, Sound}
 use Rattle.patch.proofs.Answering.{removes}
 use Rattle.patch.proofs.Sites.{some-removed}
+use Rattle.demands.proofs.First.{gives-done}
 use Rattle.demands.proofs.Written.{patch-is}
-use Rattle.demands.proofs.Third.{length-fits, some-way, site-chosen}
+use Rattle.demands.proofs.Choosing.{length-fits, some-way, site-chosen}
 use Rattle.demands.proofs.Accepting.{remove-accepted}
 
 -- ---- the summary
@@ -77,10 +81,22 @@ module _ (block out : List ℕ) (e f : ℕ) (done : removeAnswer block out e f �
       let made = remove-accepted block out e f done in
       patch-is (fieldsOf (removeBytes block out e f)) (made .points) (made .rows)
 
+  -- so the page row's second size is that of the worst row of the written block
+  pub page-given : let before = worstOfPatch (fieldsOf block) in
+      let after = worstOfPatch (fieldsOf (removeBytes block out e f)) in
+      removeGives block out e f ≡ record {
+        removal = Done (pageRow (shown before) (shown after));
+        ring = ringWith (its .ring);
+      }
+  page-given = rw fields-after (gives-done block out e f done)
+
+  pub opens-after : openAnswer (removeBytes block out e f) ≡ 0
+  opens-after = opens (removeBytes block out e f) (remove-accepted block out e f done .right)
+
   -- it opens, and its summary is that of the patch afterwards
   pub summary-after : summaryGives (removeBytes block out e f) ≡ Summed (summaryOf (patchAfter its))
   summary-after =
-      summary-opened (removeBytes block out e f) (remove-accepted block out e f done .opens)
+      summary-opened (removeBytes block out e f) opens-after
       ∙ ap (λ patch. Summed (summaryOf patch)) fields-after
 
   -- there are new rows, so the patch afterwards has a worst row

@@ -1,84 +1,40 @@
--- Demand 3, with laws 4 and 5. Admissible by faces is the mesh rule, so the chosen way is the best of all ways that keep it;
--- none is better than now exactly when each has a row no better than now; and the total D never differs.
+-- Demand 3. Of the answers 16 and 17 alone are left under its premises; 17 never comes, since the total D stays; 16 is given exactly when
+-- each tree has a row no better than now; and the chosen tree is the best. What is so of trees is so of all that cuts the ring.
 use Prim.Native.Nat.{ℕ, _-_, _≤_}
 use mathlib.Core.Bool.{Bool, true, false, cond, not}
 use mathlib.Core.List.{List, [], _∷_, _++_}
 use mathlib.Core.Logic.{_↔_}
 use mathlib.Core.Path.{_≡_, refl, sym, ap, _∙_, subst}
 use native.Mathlib.Omega.{arith}
-use borrow.Author.Tests.{le-ltb, ltb-false, not-false}
-use lib.Dec.{T, ltb, not-T}
-use lib.ListN.{length}
-use lib.IntN.{ℤ}
-use lib.Signed.{ltZ, ltZ-yes, ≤ℤ-refl, clashℤ}
-use Rattle.lists.specs.Lists.{every, any}
-use Rattle.lists.proofs.Tests.{yes-is, no-is, is-yes, neither-is}
-use Rattle.lists.proofs.Lists.{every-at, every-i, any-i, those-e}
-use Rattle.measure.specs.Measure.{sameZ, worse}
+use lib.Dec.{T, not-T}
+use Rattle.lists.specs.Lists.{every}
+use Rattle.lists.proofs.Tests.{yes-is, no-is}
+use Rattle.lists.proofs.Lists.{every-at, every-i}
+use Rattle.measure.specs.Measure.{worse}
 use Rattle.measure.proofs.Order.{_⊑_, at-most-self, at-most-trans}
-use Rattle.mesh.specs.Mesh.{rowQuality, totalD}
-use Rattle.block.specs.Layout.{maxRows, fieldsOf}
+use Rattle.mesh.specs.Mesh.{rowQuality}
+use Rattle.block.specs.Layout.{Patch, fieldsOf}
 use Rattle.block.specs.Answers.{Tests, firstRefusal, bodyTests}
 use Rattle.block.proofs.Refusals.{passed, goes-on}
-use Rattle.ring.specs.Ring.{Site, siteOf, m, minRing, maxRing, orChains, lengthWrong, notFlat, edgeTests}
-use Rattle.pieces.specs.Triangulation.{Tri, span, ways, tableAfter, rowsAfter}
-use Rattle.pieces.specs.Admissible.{admissible}
+use Rattle.ring.specs.Ring.{Site, siteOf, m, orChains, lengthWrong, notFlat, edgeTests}
+use Rattle.pieces.specs.Triangulation.{Tri, span, triangles, tableAfter}
 use Rattle.pieces.specs.Best.{worstOfWay, ringWays, chosen}
 use Rattle.pieces.proofs.Worsts.{row-fraction, worst-over}
-use Rattle.pieces.proofs.Volume.{table-total}
-use Rattle.pieces.proofs.Rings.{BestWay, way-listed, listed-way, found-way, ring-chosen, worst-row, after-length}
+use Rattle.pieces.proofs.Rings.{RingWay, BestWay, way-listed, listed-way, worst-row}
 use Rattle.patch.specs.Removing.{blockTests, worstNow, noRoom, noWay, noneBetter, patchAfter, totalDiffers, removalTests}
 use Rattle.patch.specs.Removing.{removeAnswer, removeBytes, Sound}
-use Rattle.demands.specs.Demands.{Way, Premises, NoneBetter, Demand3}
-use Rattle.patch.proofs.Answering.{unlike, both-passed, reached, remove-left}
-use Rattle.patch.proofs.Sites.{sound-site}
-use Rattle.demands.proofs.Written.{rows-read}
+use Rattle.patch.proofs.Answering.{unlike, both-passed, reached}
+use Rattle.demands.specs.Kernels.{ours}
+use Rattle.demands.specs.Ways.{tableBy, NoneBetter}
+use Rattle.demands.specs.Rounds.{edgeAt, Premises}
+use Rattle.demands.specs.Demands.{Demand3}
+use Rattle.demands.proofs.First.{numbered}
+use Rattle.demands.proofs.Ways.{NoTreeBetter, tree-way, way-tree, tree-table, none-better, best-of}
+use Rattle.demands.proofs.Choosing.{total-stays, site-chosen, some-way, way-there, length-fits}
+use Rattle.demands.proofs.Standing.{fields-after}
+use Rattle.demands.proofs.Sited.{from16, sited, ringed-sound, ringed-flat, left-14}
 
--- ---- law 5: 17 never occurs
-
-same-self : (x : ℤ) → sameZ x x ≡ true
-same-self x = let e = no-is (ltZ x x) (not-T (ltZ x x) (λ h. clashℤ (ltZ-yes h) (≤ℤ-refl x))) in rw e
-
-module _ (block : List ℕ) (e f : ℕ) (sound : Sound block e f) where
-  abbrev site : Site
-  site = siteOf (fieldsOf block) e f
-
-  -- whatever way is carried out, the total D stays
-  pub site-total : notFlat site ≡ false → (t : Tri) → span t ≡ m site - 1
-      → totalD (fieldsOf block .points) (tableAfter site t) ≡ totalD (fieldsOf block .points) (fieldsOf block .rows)
-  unfolding siteOf
-  site-total flat t spans = table-total site (sound-site block e f sound) flat t spans (fieldsOf block .rows) refl refl
-
-  pub total-stays : notFlat site ≡ false → (t : Tri) → span t ≡ m site - 1
-      → totalDiffers (fieldsOf block) (record { points = site .points; rows = tableAfter site t }) ≡ false
-  unfolding totalDiffers siteOf
-  total-stays flat t spans = rw (site-total flat t spans, same-self)
-
-  module _ (three : 3 ≤ m site) where
-    -- where some way keeps the mesh rule, the chosen one does, and none has a better worst
-    pub site-chosen : (t : Tri) → Way site t → BestWay site (chosen site)
-    site-chosen t w = ring-chosen site three (sound-site block e f sound) t (record { spans = w .0; keeps = w .1 })
-
-    -- 15 not given: some way keeps the mesh rule
-    pub some-way : noWay site ≡ false → (t : Tri) × Way site t
-    unfolding noWay
-    some-way h =
-        let found = any (admissible site) (ways (m site - 1)) in
-        let (t, w) = found-way site three (is-yes found (not-false found h)) in
-        (t, (w .spans, w .keeps))
-
-    pub way-there : (t : Tri) → Way site t → noWay site ≡ false
-    unfolding noWay ringWays
-    way-there t w =
-        let found = any (admissible site) (ways (m site - 1)) in
-        let (k, h) = those-e (admissible site) (ways (m site - 1)) (way-listed site three (record { spans = w .0; keeps = w .1 })) in
-        rw (yes-is found (any-i (admissible site) (ways (m site - 1)) k h))
-
--- 13 not given: m is 3 to 10
-pub length-fits : (site : Site) → lengthWrong site ≡ false → (minRing ≤ m site) × (m site ≤ maxRing)
-length-fits site h =
-    let (low, high) = neither-is (ltb (m site) minRing) (ltb maxRing (m site)) h in
-    (ltb-false (m site) minRing low, ltb-false maxRing (m site) high)
+-- ---- 17 never occurs
 
 front-not-17 : (block out : List ℕ) (site : Site) (e f : ℕ) → T (unlike 17 (blockTests block out ++ edgeTests orChains site e f))
 unfolding blockTests bodyTests edgeTests every
@@ -108,22 +64,20 @@ never-17 block out e f h =
     let best = site-chosen block e f sound three t w in
     no-17 (totalDiffers (fieldsOf block) (patchAfter site)) last (total-stays block e f sound a19 (chosen site) (best .way .spans))
 
--- ---- law 4: none better
+-- ---- none better
 
 module _ (site : Site) (three : 3 ≤ m site) where
-  none→ : T (noneBetter site) → NoneBetter site
+  none→ : T (noneBetter site) → NoTreeBetter site
   unfolding noneBetter
   none→ h t w =
-      let (row, k, e) = worst-row site three t (w .0) in
-      let listed = way-listed site three (record { spans = w .0; keeps = w .1 }) in
-      let own = every-at (λ t. not (worse (worstNow site) (worstOfWay site 1 t))) (ringWays site) h listed in
+      let (row, k, e) = worst-row site three t (w .spans) in
+      let own = every-at (λ t. not (worse (worstNow site) (worstOfWay site 1 t))) (ringWays site) h (way-listed site three w) in
       (row, k, subst (λ q. T (not (worse (worstNow site) q))) (sym e) own)
 
-  →none : NoneBetter site → T (noneBetter site)
+  →none : NoTreeBetter site → T (noneBetter site)
   unfolding noneBetter
   →none h = every-i (λ t. not (worse (worstNow site) (worstOfWay site 1 t))) (ringWays site) (λ t k.
-      let w = listed-way site three k in
-      let (row, i, good) = h t (w .spans, w .keeps) in
+      let (row, i, good) = h t (listed-way site three k) in
       let q = worstOfWay site 1 t in
       let low : q ⊑ rowQuality (site .points) row = worst-over site q 1 t (at-most-self q) row i in
       let high : rowQuality (site .points) row ⊑ worstNow site = record { not-worse = good } in
@@ -131,53 +85,67 @@ module _ (site : Site) (three : 3 ≤ m site) where
 
 -- ---- the demand
 
--- 13 and 14 are not given
-pub length-passes : (site : Site) → minRing ≤ m site → m site ≤ maxRing → lengthWrong site ≡ false
-length-passes site low high = rw (le-ltb (m site) minRing low, le-ltb maxRing (m site) high)
-
 -- 16, or else the next answer
 abbrev given16 : ℕ → Bool → ℕ
 given16 rest none = cond none 16 rest
 
-two-left : (none differs : Bool) → firstRefusal ((16, none) ∷ (17, differs) ∷ []) ≡ given16 (cond differs 17 0) none
+two-left : (patch : Patch) (site : Site)
+    → firstRefusal (from16 patch site) ≡ given16 (cond (totalDiffers patch (patchAfter site)) 17 0) (noneBetter site)
 unfolding firstRefusal
-two-left none differs = refl
+two-left patch site = refl
 
-module _ (block out : List ℕ) (e f : ℕ) (given : Premises block out e f) where
+module _ (block out : List ℕ) (e f : ℕ) (closed : Bool) (vs : List ℕ) (given : Premises block out e f closed vs) where
   abbrev its : Site
-  its = siteOf (fieldsOf block) e f
+  its = edgeAt (fieldsOf block) e f closed vs
 
-  three-up : 3 ≤ m its
-  three-up = given .from-three
+  -- the edge that the kernel finds is this one
+  is : siteOf (fieldsOf block) e f ≡ its
+  is = sited block out e f closed vs (given .ringed)
 
-  -- answers 16 and 17 are left
-  last-answers : removeAnswer block out e f ≡ given16 (cond (totalDiffers (fieldsOf block) (patchAfter its)) 17 0) (noneBetter its)
-  unfolding removalTests
-  last-answers =
-      let (t, w) = given .some-way in
-      remove-left block out e f (given .sound) (given .right-length)
-      ∙ goes-on 13 (lengthWrong its) _ (length-passes its (given .from-three) (given .to-ten))
-      ∙ goes-on 19 (notFlat its) _ (given .closed-or-flat)
-      ∙ goes-on 14 (noRoom its) _ (le-ltb maxRows (rowsAfter its) (given .room))
-      ∙ goes-on 15 (noWay its) _ (way-there block e f (given .sound) three-up t w)
-      ∙ two-left (noneBetter its) (totalDiffers (fieldsOf block) (patchAfter its))
+  sound : Sound block e f
+  sound = ringed-sound block out e f closed vs (given .ringed)
+
+  three : 3 ≤ m its
+  three = given .ringed .from-three
+
+  -- some tree keeps the mesh rule
+  some-tree : (t : Tri) × RingWay its t
+  some-tree =
+      let (ts, w) = given .some-way in
+      let (t, own, alike, one) = way-tree its (omega (arith, three)) ts w in
+      (t, own)
 
   best : BestWay its (chosen its)
-  best = let (t, w) = given .some-way in site-chosen block e f (given .sound) three-up t w
+  best =
+      let (t, w) = some-tree in
+      subst (λ (s : Site). 3 ≤ m s → (t : Tri) → RingWay s t → BestWay s (chosen s)) is (site-chosen block e f sound) three t w
 
-  -- 17 is not
-  last-answer : removeAnswer block out e f ≡ given16 0 (noneBetter its)
+  not-15 : noWay its ≡ false
+  not-15 =
+      let (t, w) = some-tree in
+      subst (λ (s : Site). 3 ≤ m s → (t : Tri) → RingWay s t → noWay s ≡ false) is (way-there block e f sound) three t w
+
+  not-17 : totalDiffers (fieldsOf block) (patchAfter its) ≡ false
   unfolding patchAfter
+  not-17 =
+      subst (λ (s : Site). notFlat s ≡ false → (t : Tri) → span t ≡ m s - 1
+      → totalDiffers (fieldsOf block) (record { points = s .points; rows = tableAfter s t }) ≡ false)
+      is (total-stays block e f sound) (ringed-flat block out e f closed vs (given .ringed) (given .flat)) (chosen its) (best .way .spans)
+
+  -- 16 or 0 is left
+  last-answer : removeAnswer block out e f ≡ given16 0 (noneBetter its)
   last-answer =
-      last-answers
-      ∙ ap (λ b. given16 (cond b 17 0) (noneBetter its))
-      (total-stays block e f (given .sound) (given .closed-or-flat) (chosen its) (best .way .spans))
+      left-14 block out e f closed vs (given .ringed) (given .flat) (given .room)
+      ∙ goes-on 15 (noWay its) _ not-15
+      ∙ two-left (fieldsOf block) its
+      ∙ ap (λ b. given16 (cond b 17 0) (noneBetter its)) not-17
 
   pub answer-16 : (removeAnswer block out e f ≡ 16) ↔ NoneBetter its
-  answer-16 = (
-    λ h. none→ its three-up (go (noneBetter its) (sym last-answer ∙ h)),
-    λ h. last-answer ∙ ap (given16 0) (yes-is (noneBetter its) (→none its three-up h)),
-  )
+  answer-16 =
+      let (to, from) = none-better its (omega (arith, three)) in (
+        λ h. from (none→ its three (go (noneBetter its) (sym last-answer ∙ h))),
+        λ h. last-answer ∙ ap (given16 0) (yes-is (noneBetter its) (→none its three (to h))),
+      )
     where
       go : (b : Bool) → given16 0 b ≡ 16 → T b
       go true h = tt
@@ -185,23 +153,33 @@ module _ (block out : List ℕ) (e f : ℕ) (given : Premises block out e f) whe
 
   -- otherwise 0, and nothing else
   pub answer-0 : (NoneBetter its → ⊥) → removeAnswer block out e f ≡ 0
-  answer-0 h = last-answer ∙ ap (given16 0) (no-is (noneBetter its) (not-T (noneBetter its) (λ k. h (none→ its three-up k))))
+  answer-0 h =
+      let (to, from) = none-better its (omega (arith, three)) in
+      last-answer ∙ ap (given16 0) (no-is (noneBetter its) (not-T (noneBetter its) (λ k. h (from (none→ its three k)))))
 
-  rows-written : removeAnswer block out e f ≡ 0 → fieldsOf (removeBytes block out e f) .rows ≡ tableAfter its (chosen its)
-  unfolding removeBytes patchAfter siteOf
+  rows-written : removeAnswer block out e f ≡ 0 → fieldsOf (removeBytes block out e f) .rows ≡ tableBy its (triangles 1 (chosen its))
+  unfolding patchAfter
   rows-written h =
-      let room : length (tableAfter its (chosen its)) ≤ maxRows =
-      omega (arith, given .room, after-length its (chosen its) (best .way .spans)) in
-      rw (h, rows-read block (given .sound .opens) (tableAfter its (chosen its)) room)
+      ap (λ (patch : Patch). patch .rows) (fields-after block out e f h)
+      ∙ ap (λ (s : Site). tableAfter s (chosen s)) is
+      ∙ sym (tree-table its (chosen its))
 
-  pub demand-3 : Demand3 block out e f
-  demand-3 = record {
-    none-better = answer-16;
-    otherwise = answer-0;
-    carried-out = λ h. (
-      chosen its,
-      (best .way .spans, best .way .keeps),
-      rows-written h,
-      λ u w. best .none-better u (record { spans = w .0; keeps = w .1 }),
-    );
-  }
+pub demand-3 : Demand3 ours
+unfolding ours
+demand-3 block out e f closed vs given =
+    let site = edgeAt (fieldsOf block) e f closed vs in
+    let n = numbered .remove-number block out e f in
+    let best-one = best block out e f closed vs given in
+    let two : 2 ≤ m site = omega (arith, given .ringed .from-three) in
+    record {
+      none-better =
+          let (to, from) = answer-16 block out e f closed vs given in
+          (λ h. to (sym n ∙ h), λ h. n ∙ from h);
+      otherwise = λ h. n ∙ answer-0 block out e f closed vs given h;
+      carried-out = λ h. (
+        triangles 1 (chosen site),
+        tree-way site two (chosen site) (best-one .way),
+        rows-written block out e f closed vs given (sym n ∙ h),
+        best-of site two (chosen site) .1 (best-one .none-better),
+      );
+    }

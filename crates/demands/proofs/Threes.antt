@@ -19,16 +19,21 @@ use Rattle.mesh.specs.declared.Row.{Row}
 use Rattle.mesh.specs.Mesh.{numbersFit, keepsMeshRule, Proper, holdsEdge}
 use Rattle.mesh.proofs.Places.{even-refl}
 use Rattle.mesh.proofs.Rule.{fit-proper, keeps-fits}
-use Rattle.block.specs.Layout.{Patch}
+use Rattle.block.specs.Layout.{Patch, fieldsOf}
 use Rattle.block.specs.Answers.{firstRefusal}
-use Rattle.ring.specs.Ring.{Link, link, next, closes, allClose, starts, circleOf, chainOf, Site, siteOf}
+use Rattle.ring.specs.Ring.{Link, link, next, closes, allClose, starts, circleOf, chainOf, Site, siteOf, m}
 use Rattle.ring.specs.Ring.{numbersWrong, whole, linkOpen, manyCircles, edgeTests}
 use Rattle.ring.proofs.Linking.{link-is}
 use Rattle.ring.proofs.Walking.{Walks, last, more, next-is, walks-walk}
 use Rattle.ring.proofs.Closing.{closes-i}
 use Rattle.ring.proofs.Smallest.{smallest-is}
-use Rattle.pieces.specs.Triangulation.{Tri, side, cut, span, triangles, twoRows, newRows, tableAfter}
+use Rattle.pieces.specs.Triangulation.{Tri, side, cut, span, triangles, regionOf, twoRows, newRows, tableAfter}
+use Rattle.pieces.specs.Best.{chosen}
+use Rattle.pieces.proofs.Rings.{RingWay}
 use Rattle.pieces.proofs.Ways.{span-over}
+use Rattle.patch.specs.Removing.{Sound}
+use Rattle.demands.specs.FlipWords.{rowsAcross, rowsRound}
+use Rattle.demands.proofs.Choosing.{site-chosen}
 use Rattle.demands.proofs.Orders.{ThreeApart, apart-three}
 
 -- ---- three links
@@ -81,13 +86,15 @@ module _ (u v w : ℕ) (apart : ThreeApart u v w) where
       λ i. in-cases i (λ e. omega arith) λ i. absurd (List·Memᴰ·not-nil i)) in
       rw (← least, walks-walk links u 3 walk-u (omega arith))
 
--- ---- three rows
+-- ---- two rows
 
--- (a,b,u,v), (a,b,v,w), (a,b,w,u)
-abbrev pub rowsRound : ℕ → ℕ → ℕ → ℕ → ℕ → ℕ → List Row
-rowsRound a b u v w region =
-    let row : ℕ → ℕ → Row = λ x y. record { p = a; q = b; r = x; s = y; region = region } in
-    row u v ∷ row v w ∷ row w u ∷ []
+-- the one triangle of a ring of three has these
+pub across : (site : Site) (u v w : ℕ) → site .ring ≡ u ∷ v ∷ w ∷ []
+    → newRows site 1 (cut side side) ≡ rowsAcross (site .a) (site .b) u v w (regionOf (site .removed))
+unfolding newRows triangles twoRows flatMap span
+across site u v w e = rw e
+
+-- ---- three rows
 
 module _ (points : List Point) (kept : List Row) (a b u v w region : ℕ) (order : a < b) (uv : u ≤ v) (uw : u ≤ w)
     (rule : T (keepsMeshRule (length points) (kept ++ rowsRound a b u v w region)))
@@ -207,12 +214,6 @@ module _ (points : List Point) (kept : List Row) (a b u v w region : ℕ) (order
 
   -- ---- the only way
 
-  -- the two rows of the one triangle
-  abbrev pub rowsTwo : List Row
-  rowsTwo =
-      record { p = a; q = u; r = v; s = w; region = region }
-      ∷ record { p = u; q = v; r = w; s = b; region = region } ∷ []
-
   site-a : site .a ≡ a
   unfolding siteOf
   site-a = min-is
@@ -221,9 +222,9 @@ module _ (points : List Point) (kept : List Row) (a b u v w region : ℕ) (order
   unfolding siteOf
   site-b = max-is
 
-  pub three-table : tableAfter site (cut side side) ≡ kept ++ rowsTwo
-  unfolding tableAfter newRows triangles twoRows flatMap span
-  three-table = rw (three-kept, ring-three, three-removed, site-a, site-b)
+  pub three-table : tableAfter site (cut side side) ≡ kept ++ rowsAcross a b u v w region
+  unfolding tableAfter
+  three-table = rw (across site u v w ring-three, three-kept, three-removed, site-a, site-b)
 
 -- a ring of three is triangulated in one way
 pub one-tree : (t : Tri) → span t ≡ 2 → t ≡ cut side side
@@ -232,3 +233,11 @@ one-tree side e = absurd (omega arith)
 one-tree (cut side side) e = refl
 one-tree (cut side (cut l r)) e = absurd (omega (arith, span-over l, span-over r))
 one-tree (cut (cut l r) t) e = absurd (omega (arith, span-over l, span-over r, span-over t))
+
+-- so that way is the chosen one
+pub three-chosen : (block : List ℕ) (e f : ℕ) → Sound block e f
+    → let site = siteOf (fieldsOf block) e f in
+    m site ≡ 3 → (t : Tri) → RingWay site t → chosen site ≡ cut side side
+three-chosen block e f sound three t way =
+    let best = site-chosen block e f sound (omega (arith, three)) t way in
+    one-tree (chosen (siteOf (fieldsOf block) e f)) (omega (arith, three, best .way .spans))

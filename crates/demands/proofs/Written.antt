@@ -1,4 +1,4 @@
--- What an accepted call writes: the bytes of a patch that keeps the points and the mesh rule open, and hold that patch.
+-- What an accepted call writes: the bytes of a patch that keeps the points and the mesh rule are right, and hold that patch.
 use Prim.Native.Nat.{ℕ, _≤_}
 use mathlib.Core.Bool.{Bool, not}
 use mathlib.Core.List.{List, _++_}
@@ -13,7 +13,7 @@ use Rattle.mesh.specs.Mesh.{keepsMeshRule, totalD}
 use Rattle.mesh.proofs.Rule.{rule-stated}
 use Rattle.block.specs.Layout.{Patch, maxPoints, maxRows, fieldsOf, bodyOf, sumBytes, bytesOf}
 use Rattle.block.specs.Answers.{openAnswer}
-use Rattle.block.proofs.Right.{right-block, opens}
+use Rattle.block.proofs.Right.{right-block}
 use Rattle.block.proofs.Written.{body-read, bytes-right, points-counted}
 use Rattle.demands.specs.Demands.{Accepted}
 
@@ -31,15 +31,11 @@ module _ (block : List ℕ) (opened : openAnswer block ≡ 0) (rows : List Row) 
   rows-read = body-read withRows (few-points block opened) room (sumBytes (bodyOf withRows))
 
   module _ (rule : T (keepsMeshRule (length (fieldsOf block .points)) rows)) where
-    pub rows-open : openAnswer (bytesOf withRows) ≡ 0
-    rows-open = opens (bytesOf withRows)
-        (bytes-right withRows (few-points block opened) room (right-block block opened .body .coordinates) rule)
-
     pub accepted : (goes : Row → Bool) (new : List Row) → rows ≡ those (λ row. not (goes row)) (fieldsOf block .rows) ++ new
         → totalD (fieldsOf block .points) rows ≡ totalD (fieldsOf block .points) (fieldsOf block .rows)
         → Accepted block (bytesOf withRows) goes new
     accepted goes new made volume = record {
-      opens = rows-open;
+      right = bytes-right withRows (few-points block opened) room (right-block block opened .body .coordinates) rule;
       points = rw rows-read;
       rows = rw rows-read made;
       rule = rw rows-read (rule-stated (length (fieldsOf block .points)) rows rule);

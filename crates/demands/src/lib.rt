@@ -1,1 +1,1 @@
-// What the calls promise, as laws of their definitions; nothing here runs.
+// What is demanded of any kernel, and why ours meets it; nothing here runs.

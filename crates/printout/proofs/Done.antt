@@ -9,7 +9,6 @@ use lib.Seq.{take-append-seam, drop-at}
 use Rattle.measure.specs.declared.PageRow.{PageRow}
 use Rattle.block.specs.Layout.{Patch, rowCount, fieldsOf}
 use Rattle.block.proofs.Parts.{filled-length}
-use Rattle.block.proofs.Right.{right-block}
 use Rattle.block.proofs.Written.{rows-counted}
 use Rattle.tally.specs.declared.Summary.{Summary}
 use Rattle.tally.specs.Summing.{summaryOf}
@@ -25,10 +24,9 @@ use Rattle.patch.specs.Removing.{patchAfter, removeAnswer, removeBytes, removeG
 use Rattle.patch.specs.Summing.{summaryGives}
 use Rattle.demands.proofs.Accepting.{remove-accepted}
 use Rattle.patch.proofs.Answering.{removes}
-use Rattle.demands.proofs.First.{demand-1}
-use Rattle.demands.proofs.Second.{demand-2}
-use Rattle.demands.proofs.Standing.{summary-opened, fields-after}
-use Rattle.demands.proofs.Third.{length-fits, some-way, site-chosen}
+use Rattle.demands.proofs.First.{remove-number}
+use Rattle.demands.proofs.Standing.{summary-opened, fields-after, page-given, opens-after}
+use Rattle.demands.proofs.Choosing.{length-fits, some-way, site-chosen}
 use Rattle.printout.specs.Printout.{answerLine, report}
 use Rattle.printout.specs.Reports.{keptRows, doneLines, Reportable}
 
@@ -37,14 +35,14 @@ use Rattle.printout.specs.Reports.{keptRows, doneLines, Reportable}
 module _ (block out : List ℕ) (e f : ℕ) (removed : Removed) (gives : removed ≡ removeGives block out e f) where
   -- its number
   pub number-is : removalNumber (removed .removal) ≡ removeAnswer block out e f
-  number-is = ap (λ (r : Removed). removalNumber (r .removal)) gives ∙ demand-1 .remove-number block out e f
+  number-is = ap (λ (r : Removed). removalNumber (r .removal)) gives ∙ remove-number block out e f
 
   pub done-answer : (page : PageRow) → removed .removal ≡ Done page → removeAnswer block out e f ≡ 0
   done-answer page h = sym number-is ∙ ap removalNumber h
 
   pub refused-answer : (n : ℕ) → removed .removal ≡ Refused n → removeAnswer block out e f ≡ 0 → ⊥
   refused-answer n h done =
-      let made = ap (λ (r : Removed). r .removal) (gives ∙ demand-2 .page block out e f done) in
+      let made = ap (λ (r : Removed). r .removal) (gives ∙ page-given block out e f done) in
       let w : _≡_ {A = ℕ} 0 1 = cc in
       omega arith
 
@@ -84,7 +82,7 @@ module _ (block out : List ℕ) (e f : ℕ) (done : removeAnswer block out e f �
   -- what a report asks for
   pub reportable : Reportable (ringWith (site .ring)) output
   reportable =
-      let right = right-block output (remove-accepted block out e f done .opens) in
+      let right = remove-accepted block out e f done .right in
       record {
         from-three = fits .0;
         to-ten = fits .1;
@@ -107,7 +105,7 @@ module _ (block out : List ℕ) (e f : ℕ) (done : removeAnswer block out e f �
   unfolding report
   done-lines before after b a =
       let opened = summary-opened block (removes block out e f done .sound .opens) in
-      let written = summary-opened output (remove-accepted block out e f done .opens) in
+      let written = summary-opened output (opens-after block out e f done) in
       let before-is : before ≡ summaryOf (fieldsOf block) = cc in
       let after-is : after ≡ summaryOf (fieldsOf output) = cc in
       rw (before-is, after-is, take-append-seam, last-rows) (simp append-assoc)

@@ -17,10 +17,8 @@ use Rattle.patch.specs.declared.Summarised.{Summarised}
 use Rattle.patch.specs.declared.Summarised.the-variants as Summarises
 use Rattle.patch.specs.Removing.{removeAnswer, removeBytes, removeGives, removalNumber}
 use Rattle.patch.specs.Summing.{summaryGives}
-use Rattle.demands.proofs.Accepting.{remove-accepted}
 use Rattle.patch.proofs.Answering.{removes}
-use Rattle.demands.proofs.Second.{demand-2}
-use Rattle.demands.proofs.Standing.{summary-opened}
+use Rattle.demands.proofs.Standing.{summary-opened, page-given, opens-after}
 use Rattle.printout.specs.declared.Text.{Text}
 use Rattle.printout.specs.Printout.{answerLine, printout}
 use Rattle.printout.specs.Texts.{textBytes, textOf, held}
@@ -77,11 +75,11 @@ module _ (input : List ℕ) (bytes : T (every isByte input)) where
           -- and so has the block that was written
           pub written-opens : {given : Summarised} → given ≡ summaryGives output → {n : ℕ} → given ≡ Summarises.Refused n → ⊥
           written-opens {given} g {n} h =
-              let opened = summary-opened (removeBytes block out e f) (remove-accepted block out e f answer .opens) in
+              let opened = summary-opened (removeBytes block out e f) (opens-after block out e f answer) in
               never-refused (removeBytes block out e f) _ opened given (g ∙ ap summaryGives written) n h
 
           ring-is : removed .ring ≡ ringWith (siteOf (fieldsOf block) e f .ring)
-          ring-is = ap (λ (r : Removed). r .ring) (gives ∙ demand-2 .page block out e f answer)
+          ring-is = ap (λ (r : Removed). r .ring) (gives ∙ page-given block out e f answer)
 
           pub report-asks : Reportable (removed .ring) output
           report-asks = rw (ring-is, written) (reportable block out e f answer)

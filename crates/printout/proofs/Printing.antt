@@ -16,8 +16,7 @@ use Rattle.patch.specs.Summing.{summaryGives}
 use Rattle.patch.specs.Removing.{removeAnswer, removeBytes}
 use Rattle.printout.specs.Printout.{line, summaryFields, answerLine, ringLine, rowLine, report, printout}
 use Rattle.patch.proofs.Answering.{removes}
-use Rattle.demands.proofs.Accepting.{remove-accepted}
-use Rattle.demands.proofs.Standing.{summary-opened}
+use Rattle.demands.proofs.Standing.{summary-opened, opens-after}
 
 module _ (input : List ℕ) where
   -- the block, the two ends and the output block of the program
@@ -70,6 +69,6 @@ reported block out e f done = record {
   before = summaryOf (fieldsOf block);
   after = summaryOf (fieldsOf (removeBytes block out e f));
   before-is = summary-opened block (removes block out e f done .sound .opens);
-  after-is = summary-opened (removeBytes block out e f) (remove-accepted block out e f done .opens);
+  after-is = summary-opened (removeBytes block out e f) (opens-after block out e f done);
   lines = refl;
 }

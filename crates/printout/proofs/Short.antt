@@ -11,7 +11,7 @@ use mir.Syntax.{w8}
 use mir.Val.{Fits}
 use lib.Dec.{T, eqb, ltb, leb, lt→ltb, ltb→lt}
 use lib.ListN.{length, getD, take, drop, replicate, length-append, length-map, List·getD-eq-default}
-use Rattle.lists.specs.Lists.{every, largest, has, count}
+use Rattle.lists.specs.Lists.{every, largest, count}
 use Rattle.lists.proofs.Counts.{count-most}
 use Rattle.lists.proofs.Lists.{every-at, every-i, every-take, every-drop, those-e}
 use Rattle.lists.proofs.Numbers.{has-e, largest-within}
@@ -36,11 +36,11 @@ use Rattle.pieces.specs.Triangulation.{Triangle, v, regionOf, triangles, twoRow
 use Rattle.pieces.specs.Best.{chosen}
 use Rattle.patch.specs.Removing.{removeAnswer, removeBytes, Sound}
 use Rattle.demands.specs.Demands.{removeNumbers}
-use Rattle.demands.proofs.Accepting.{remove-accepted}
 use Rattle.patch.proofs.Answering.{removes}
-use Rattle.demands.proofs.First.{demand-1}
+use Rattle.demands.proofs.First.{remove-listed}
+use Rattle.demands.proofs.Standing.{opens-after}
 use Rattle.patch.proofs.Sites.{site-ends, ring-point}
-use Rattle.demands.proofs.Third.{length-fits}
+use Rattle.demands.proofs.Choosing.{length-fits}
 use Rattle.printout.specs.Printout.{text, mark, scoreField, octaveField, answerLine, report, printout}
 use Rattle.printout.specs.Texts.{textBytes}
 use Rattle.printout.proofs.Printing.{printed-length, printed-refusal, printed-done}
@@ -172,7 +172,7 @@ numbers-few = tt
 
 answer-short : (block out : List ℕ) (e f : ℕ) → length (answerLine (removeAnswer block out e f)) ≤ 11
 answer-short block out e f =
-    let listed = has-e removeNumbers (removeAnswer block out e f) (demand-1 .remove-listed block out e f) in
+    let listed = has-e removeNumbers (removeAnswer block out e f) (remove-listed block out e f) in
     answer-size (removeAnswer block out e f) (ltb→lt (removeAnswer block out e f) 1000 (every-at small removeNumbers numbers-few listed))
 
 -- the report of a removal that is done
@@ -185,7 +185,7 @@ report-short block out e f bytes done =
     let output = removeBytes block out e f in
     let fits = length-fits site (r .length-right) in
     let first = summary-size "before" (summaryOf (fieldsOf block)) (small-summary block (r .sound .opens)) in
-    let second = summary-size "after" (summaryOf (fieldsOf output)) (small-summary output (remove-accepted block out e f done .opens)) in
+    let second = summary-size "after" (summaryOf (fieldsOf output)) (small-summary output (opens-after block out e f done)) in
     let third = ring-size (site .ring) (ring-small block bytes e f (r .sound)) in
     let new = newRows site 1 (chosen site) in
     let last = rows-size new (new-small block bytes e f (r .sound)) in

@@ -1,4 +1,4 @@
--- Document 01, "The program and its printout".
+-- Requirement §12: what the program prints.
 use Prim.Native.Nat.{ℕ, zero, suc, _+_, _/_, _%_}
 use Prim.Native.Char.{code}
 use Prim.Native.String.{String, [] as empty, _∷_ as _then_}

@@ -1,0 +1,76 @@
+-- A kernel as its caller sees it: of each public call what it returns and what it leaves in the output block.
+-- What is demanded is demanded of any kernel, whatever it does inside.
+-- Ours is the one whose calls are proved.
+use Prim.Native.Nat.{ℕ}
+use mathlib.Core.List.{List}
+use lib.Ieee.{Float}
+use Rattle.block.specs.declared.Answer.{Answer}
+use Rattle.block.specs.declared.Fields.{Fields}
+use Rattle.block.specs.declared.Opened.{Opened}
+use Rattle.block.specs.Layout.{Patch}
+use Rattle.block.specs.Answers.{openGives, answerOf, numberOf, sealAnswer, sealBytes}
+use Rattle.tally.specs.Measured.{patchIn}
+use Rattle.display.specs.Showing.{shownAnswer, shownElements}
+use Rattle.patch.specs.declared.Summarised.{Summarised}
+use Rattle.patch.specs.declared.Removed.{Removed}
+use Rattle.patch.specs.Summing.{summaryGives, summaryNumber}
+use Rattle.patch.specs.Removing.{removeGives, removeBytes, removalNumber}
+use Rattle.patch.specs.Flipping.{flip32Answer, flip32Bytes, flip23Answer, flip23Bytes}
+
+-- A kernel: a field for each public call, with the bytes of the output block afterwards where the call has one.
+pub record Kernel : Type 0 where
+  pub read : List ℕ → Opened
+  pub summary : List ℕ → Summarised
+  pub shown : List ℕ → List Float → Answer × List Float
+  pub seal : List ℕ → List ℕ → Answer × List ℕ
+  pub remove : List ℕ → List ℕ → ℕ → ℕ → Removed × List ℕ
+  pub flip32 : List ℕ → List ℕ → ℕ → ℕ → Answer × List ℕ
+  pub flip23 : List ℕ → List ℕ → ℕ → ℕ → ℕ → Answer × List ℕ
+
+-- ours: each field is the right side of that call's contract
+unfoldable pub ours : Kernel
+ours = record {
+  read = openGives;
+  summary = summaryGives;
+  shown = λ block out. (answerOf (shownAnswer block out), shownElements block out);
+  seal = λ body out. (answerOf (sealAnswer body out), sealBytes body out);
+  remove = λ block out e f. (removeGives block out e f, removeBytes block out e f);
+  flip32 = λ block out e f. (answerOf (flip32Answer block out e f), flip32Bytes block out e f);
+  flip23 = λ block out x y z. (answerOf (flip23Answer block out x y z), flip23Bytes block out x y z);
+}
+
+-- ---- the numbers that its calls answer
+
+-- opening
+abbrev pub opens : Kernel → List ℕ → ℕ
+opens k block = numberOf (k .read block .answer)
+
+-- the summary
+abbrev pub summarises : Kernel → List ℕ → ℕ
+summarises k block = summaryNumber (k .summary block)
+
+-- what is shown of the rows
+abbrev pub shows : Kernel → List ℕ → List Float → ℕ
+shows k block out = numberOf (k .shown block out .0)
+
+-- sealing
+abbrev pub seals : Kernel → List ℕ → List ℕ → ℕ
+seals k body out = numberOf (k .seal body out .0)
+
+-- a removal
+abbrev pub removes : Kernel → List ℕ → List ℕ → ℕ → ℕ → ℕ
+removes k block out e f = removalNumber (k .remove block out e f .0 .removal)
+
+-- a 3-2 flip
+abbrev pub flips32 : Kernel → List ℕ → List ℕ → ℕ → ℕ → ℕ
+flips32 k block out e f = numberOf (k .flip32 block out e f .0)
+
+-- a 2-3 flip
+abbrev pub flips23 : Kernel → List ℕ → List ℕ → ℕ → ℕ → ℕ → ℕ
+flips23 k block out x y z = numberOf (k .flip23 block out x y z .0)
+
+-- ---- what opening returns
+
+-- the fields, read as a patch: as many points of the coordinates and rows of the table as they count
+abbrev pub asPatch : Fields → Patch
+asPatch fields = patchIn (fields .coordinates) (fields .points) (fields .table) (fields .rows)

@@ -1,0 +1,109 @@
+-- Requirement §6.1, §8 and §9.3: what is promised beside the demands, as statements about any kernel: room, either order of the ends, any
+-- order of the rows, and a 3-2 flip after a 2-3 flip. They speak of what a call returns and of the bytes that it leaves, never of how a
+-- kernel finds them.
+use Prim.Native.Nat.{ℕ, _<_, min, max}
+use mathlib.Core.Bool.{Bool, true, false, not}
+use mathlib.Core.List.{List, [], _∷_, map, List·Memᴰ}
+use mathlib.Core.Logic.{_↔_}
+use mathlib.Core.Path.{_≡_}
+use lib.Dec.{T}
+use lib.ListN.{length, take, drop}
+use Rattle.lists.specs.Lists.{any, count, different}
+use Rattle.mesh.specs.declared.Row.{Row}
+use Rattle.mesh.specs.Mesh.{numbers, holdsEdge, holdsFace}
+use Rattle.mesh.specs.Tetrahedra.{SameTetrahedra}
+use Rattle.block.specs.Layout.{blockBytes, fieldsOf}
+use Rattle.block.specs.Within.{RightBlock}
+use Rattle.demands.specs.Rounds.{Ringed, FlatChain}
+use Rattle.demands.specs.Kernels.{Kernel, removes, flips32, flips23}
+
+-- ---- room
+
+-- A ring of six makes two rows more than go, so a block with more than 58 rows gets 14; a ring of four makes none more, and always has room.
+-- A flat chain makes one row more than a ring of its length. For every length it is `Tells .fourteen`, of which these are cases.
+pub record Room (k : Kernel) : Type 0 where
+  pub ring-of-six : (block out : List ℕ) (e f : ℕ) (vs : List ℕ) → Ringed block out e f true vs → length vs ≡ 6
+      → (removes k block out e f ≡ 14) ↔ (58 < length (fieldsOf block .rows))
+  pub ring-of-four : (block out : List ℕ) (e f : ℕ) (vs : List ℕ) → Ringed block out e f true vs → length vs ≡ 4
+      → removes k block out e f ≡ 14 → ⊥
+  pub chain-of-four : (block out : List ℕ) (e f : ℕ) (vs : List ℕ) → Ringed block out e f false vs → FlatChain block e f false vs
+      → length vs ≡ 4 → (removes k block out e f ≡ 14) ↔ (59 < length (fieldsOf block .rows))
+  pub chain-of-three : (block out : List ℕ) (e f : ℕ) (vs : List ℕ) → Ringed block out e f false vs → FlatChain block e f false vs
+      → length vs ≡ 3 → removes k block out e f ≡ 14 → ⊥
+
+-- ---- either order
+
+-- A removal and a 3-2 flip return and leave the same for both orders of the ends, and a 2-3 flip for all six orders of its face:
+-- exchanging the first two numbers and turning the three round make up the six.
+pub record EitherOrder (k : Kernel) : Type 0 where
+  pub remove : (block out : List ℕ) (e f : ℕ) → k .remove block out e f ≡ k .remove block out f e
+  pub flip32 : (block out : List ℕ) (e f : ℕ) → k .flip32 block out e f ≡ k .flip32 block out f e
+  pub exchanged : (block out : List ℕ) (x y z : ℕ) → k .flip23 block out x y z ≡ k .flip23 block out y x z
+  pub turned : (block out : List ℕ) (x y z : ℕ) → k .flip23 block out x y z ≡ k .flip23 block out y z x
+
+-- ---- any row order
+
+-- Two valid blocks with the same points and the same tetrahedra, in another order of rows and evenly rearranged.
+pub record SameMesh (block other : List ℕ) : Type 0 where
+  pub right : RightBlock block
+  pub other-right : RightBlock other
+  pub points : fieldsOf block .points ≡ fieldsOf other .points
+  pub tetrahedra : SameTetrahedra (fieldsOf block .rows) (fieldsOf other .rows)
+
+-- how many rows stay: those that do not hold the edge, or the face
+abbrev pub staying : (Row → Bool) → List ℕ → ℕ
+staying goes block = count (λ row. not (goes row)) (fieldsOf block .rows)
+
+-- The outputs for two blocks: the rows that stayed, which stand first, are the same tetrahedra; behind them each row has the same four
+-- numbers in the same order. Only order and arrangement of the rows that stayed, and the region of the others, go by the table.
+pub record SameOutput (goes : Row → Bool) (block other output its-output : List ℕ) : Type 0 where
+  pub stayed : SameTetrahedra (take (staying goes block) (fieldsOf output .rows)) (take (staying goes other) (fieldsOf its-output .rows))
+  pub behind : map numbers (drop (staying goes block) (fieldsOf output .rows))
+      ≡ map numbers (drop (staying goes other) (fieldsOf its-output .rows))
+
+-- the answers of the three calls are the same, with 0 so is the output as above, and a removal returns the same ring
+pub record AnyRowOrder (k : Kernel) : Type 0 where
+  pub remove-answer : (block other out : List ℕ) (e f : ℕ) → SameMesh block other → removes k block out e f ≡ removes k other out e f
+  pub ring : (block other out : List ℕ) (e f : ℕ) → SameMesh block other
+      → k .remove block out e f .0 .ring ≡ k .remove other out e f .0 .ring
+  pub remove-output : (block other out : List ℕ) (e f : ℕ) → SameMesh block other → removes k block out e f ≡ 0
+      → SameOutput (holdsEdge (min e f) (max e f)) block other (k .remove block out e f .1) (k .remove other out e f .1)
+  pub flip32-answer : (block other out : List ℕ) (e f : ℕ) → SameMesh block other
+      → k .flip32 block out e f .0 ≡ k .flip32 other out e f .0
+  pub flip32-output : (block other out : List ℕ) (e f : ℕ) → SameMesh block other → flips32 k block out e f ≡ 0
+      → SameOutput (holdsEdge (min e f) (max e f)) block other (k .flip32 block out e f .1) (k .flip32 other out e f .1)
+  pub flip23-answer : (block other out : List ℕ) (x y z : ℕ) → SameMesh block other
+      → k .flip23 block out x y z .0 ≡ k .flip23 other out x y z .0
+  pub flip23-output : (block other out : List ℕ) (x y z : ℕ) → SameMesh block other → flips23 k block out x y z ≡ 0
+      → SameOutput (holdsFace (x ∷ y ∷ z ∷ [])) block other (k .flip23 block out x y z .1) (k .flip23 other out x y z .1)
+
+-- ---- 3-2 after 2-3
+
+-- The apexes over a face x, y, z, in either order: five different points, where one row holds the face and a, another the face and b.
+pub record Apexes (rows : List Row) (x y z a b : ℕ) : Type 0 where
+  pub apart : T (different (a ∷ b ∷ x ∷ y ∷ z ∷ []))
+  pub over-a : T (any (holdsFace (a ∷ x ∷ y ∷ z ∷ [])) rows)
+  pub over-b : T (any (holdsFace (b ∷ x ∷ y ∷ z ∷ [])) rows)
+
+-- the rows that hold the face have one region
+abbrev pub OneRegion : List Row → ℕ → ℕ → ℕ → Type 0
+OneRegion rows x y z =
+    (s t : Row) → List·Memᴰ s rows → List·Memᴰ t rows → T (holdsFace (x ∷ y ∷ z ∷ []) s) → T (holdsFace (x ∷ y ∷ z ∷ []) t)
+    → s .region ≡ t .region
+
+-- The premises: the 2-3 flip of x, y, z was done, its two rows had one region, no row joined the apexes, and the 3-2 flip gets an output
+-- block of the right length.
+pub record Flipped (k : Kernel) (block out other : List ℕ) (x y z a b : ℕ) : Type 0 where
+  pub done : flips23 k block out x y z ≡ 0
+  pub right-length : length other ≡ blockBytes
+  pub apexes : Apexes (fieldsOf block .rows) x y z a b
+  pub one-region : OneRegion (fieldsOf block .rows) x y z
+  pub none-held : T (not (any (holdsEdge a b) (fieldsOf block .rows)))
+
+-- The 3-2 flip of a, b is done on what the first flip left, and the table has the tetrahedra that it had before both.
+abbrev pub BroughtBack : Kernel → Type 0
+BroughtBack k =
+    (block out other : List ℕ) (x y z a b : ℕ) → Flipped k block out other x y z a b
+    → let between = k .flip23 block out x y z .1 in
+    (flips32 k between other a b ≡ 0)
+    × SameTetrahedra (fieldsOf (k .flip32 between other a b .1) .rows) (fieldsOf block .rows)

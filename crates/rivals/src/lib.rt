@@ -1,0 +1,1 @@
+// Useless kernels, and why they fail the demands; nothing here runs.
