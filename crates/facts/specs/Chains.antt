@@ -1,4 +1,4 @@
--- Document 02, request [1], computed on the sample plate: an edge on a flat outer face, and what shuts it out.
+-- Request [1], computed on the sample plate: an edge on a flat outer face, and what shuts it out.
 use mathlib.Core.Bool.{_&&_}
 use mathlib.Core.List.{List, [], _∷_, _++_}
 use lib.Dec.{T, eqb}

@@ -1,4 +1,4 @@
--- The twelve facts of document 01 as one computed table, the seventh as document 02 has it, and the printout of block A.
+-- Requirement §13: the twelve facts as one computed table, and the printout of block A.
 use Prim.Native.Nat.{ℕ}
 use mathlib.Core.Bool.{Bool, false, _&&_}
 use mathlib.Core.List.{List, [], _∷_, _++_, map}
@@ -58,7 +58,8 @@ octahedron = record {
 unfoldable pub openA : Patch
 openA = record { points = blockA .points; rows = take 2 (blockA .rows) }
 
--- Fact 8: A with a sixth point and the row (5,2,3,4).
+-- Fact 8: A with a sixth point and the row (5,2,3,4); the answer is the same at every place of that point, and so is fact 9's
+-- (`any-place` in the crate instances).
 unfoldable pub blockedA : Patch
 blockedA = blockAWith (at 4 4 12) (at 9 9 9 ∷ []) (row 5 2 3 4 ∷ [])
 

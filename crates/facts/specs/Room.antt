@@ -1,4 +1,4 @@
--- Document 01, "Room: 58 rows with m = 6 pass, 59 get 14; 60 rows with m = 4 pass", computed; and document 02's room of a chain.
+-- Requirement §9.3, computed: room for the rows afterwards, of a ring and of a chain.
 use Prim.Native.Nat.{ℕ, suc, _+_}
 use mathlib.Core.Bool.{Bool, _&&_}
 use mathlib.Core.List.{List, [], _∷_, _++_, map}

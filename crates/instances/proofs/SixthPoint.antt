@@ -1,0 +1,66 @@
+-- Facts 8 and 9 at every place: of a patch that a block may hold the answer is that of the tests behind 8, and with a closed ring those as
+-- far as 15 ask for rows and for the number of points alone, so they compute without a place.
+use Prim.Native.Nat.{ℕ, _≤_}
+use mathlib.Core.Bool.{true, _&&_}
+use mathlib.Core.List.{[], _∷_, _++_, append-assoc}
+use mathlib.Core.Path.{_≡_, refl, ap, _∙_}
+use borrow.Author.Tests.{le-leb}
+use lib.Dec.{T, leb, lit≤}
+use Rattle.measure.specs.Measure.{maxCoordinate}
+use Rattle.block.specs.Layout.{Patch, fieldsOf, bytesOf}
+use Rattle.block.specs.Within.{Kept}
+use Rattle.block.specs.Answers.{Tests, firstRefusal, notBlock}
+use Rattle.block.proofs.Refusals.{goes-on}
+use Rattle.block.proofs.Trip.{read-written, opens-written}
+use Rattle.ring.specs.Ring.{siteOf, orChains, edgeTests}
+use Rattle.patch.specs.Removing.{blockTests, removalTests, removeAnswer}
+use Rattle.patch.proofs.Answering.{block-opened}
+use Rattle.facts.specs.Open.{definitions}
+use Rattle.facts.specs.Facts.{row, answer, blank, blockAWith}
+use Rattle.instances.specs.SixthPoint.{sixthAt, AnyPlace}
+
+-- the tests behind 8
+abbrev behind8 : Patch → ℕ → ℕ → Tests
+behind8 patch e f = let site = siteOf patch e f in edgeTests orChains site e f ++ removalTests patch site
+
+-- the answer of a patch that a block may hold
+answer-of : (patch : Patch) → Kept patch → (e f : ℕ) → answer patch e f ≡ firstRefusal (behind8 patch e f)
+unfolding removeAnswer
+answer-of patch kept e f =
+    let block = bytesOf patch in
+    let its = fieldsOf block in
+    let site = siteOf its e f in
+    ap firstRefusal (append-assoc (blockTests block blank) (edgeTests orChains site e f) (removalTests its site))
+    ∙ block-opened block blank (behind8 its e f) (opens-written patch kept)
+    ∙ goes-on 1 (notBlock blank) (behind8 its e f) refl
+    ∙ ap (λ of. firstRefusal (behind8 of e f)) (read-written patch (kept .within))
+
+-- ---- block A with its sixth point
+
+-- a block may hold it, with and without the row of fact 8
+kept-at : (x y z : ℕ) → x ≤ maxCoordinate → y ≤ maxCoordinate → z ≤ maxCoordinate
+    → Kept (sixthAt x y z []) × Kept (sixthAt x y z (row 5 2 3 4 ∷ []))
+unfolding blockAWith definitions
+kept-at x y z hx hy hz =
+    let placed : T (leb x maxCoordinate && (leb y maxCoordinate && (leb z maxCoordinate && true))) =
+    rw (le-leb x maxCoordinate hx, le-leb y maxCoordinate hy, le-leb z maxCoordinate hz) tt in (
+      record { within = record { few-points = lit≤ tt; few-rows = lit≤ tt; coordinates = placed; bytes = tt }; rule = tt },
+      record { within = record { few-points = lit≤ tt; few-rows = lit≤ tt; coordinates = placed; bytes = tt }; rule = tt },
+    )
+
+-- the tests, with the place left open
+
+tests-8 : (x y z : ℕ) → firstRefusal (behind8 (sixthAt x y z (row 5 2 3 4 ∷ [])) 0 1) ≡ 15
+unfolding blockAWith definitions
+tests-8 x y z = refl
+
+tests-9 : (x y z : ℕ) → firstRefusal (behind8 (sixthAt x y z []) 0 5) ≡ 10
+unfolding blockAWith definitions
+tests-9 x y z = refl
+
+pub any-place : AnyPlace
+any-place = record {
+  fact-8 = λ x y z hx hy hz.
+      answer-of (sixthAt x y z (row 5 2 3 4 ∷ [])) (kept-at x y z hx hy hz .1) 0 1 ∙ tests-8 x y z;
+  fact-9 = λ x y z hx hy hz. answer-of (sixthAt x y z []) (kept-at x y z hx hy hz .0) 0 5 ∙ tests-9 x y z;
+}

@@ -1,0 +1,4 @@
+pub mod Numbers
+pub mod Close
+pub mod Summaries
+pub mod SixthPoint

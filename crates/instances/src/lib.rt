@@ -1,0 +1,1 @@
+// Blocks that show what can happen; nothing here runs.
