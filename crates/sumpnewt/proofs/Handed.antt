@@ -1,26 +1,24 @@
 -- The number that a call hands to C is its answer, and the elements it hands out are those of its case.
-use Prim.Native.Nat.{ℕ, zero, suc}
+use Prim.Native.Nat.{ℕ}
 use mathlib.Core.List.{List}
 use mathlib.Core.Path.{_≡_, refl, sym, ap, _∙_}
 use native.Mathlib.Omega.{arith}
 use borrow.Author.Tests.{eq-eqb, ne-eqb}
-use lib.Ieee.{Float}
-use lib.ListN.{length, replicate}
+use lib.ListN.{length}
 use Rattle.measure.specs.declared.PageRow.{PageRow}
 use Rattle.block.specs.declared.Answer.{Answer}
-use Rattle.block.specs.Layout.{blockBytes, fieldsOf}
+use Rattle.block.specs.Layout.{fieldsOf}
 use Rattle.block.specs.Answers.{numberOf, answerOf, openAnswer}
 use Rattle.block.proofs.Refusals.{number-of}
 use Rattle.tally.specs.declared.Summary.{Summary}
 use Rattle.tally.specs.Summing.{summaryOf}
 use Rattle.patch.specs.declared.Summarised.{Summarised}
 use Rattle.patch.specs.declared.Summarised.the-variants as Summarises
-use Rattle.patch.specs.declared.Removal.{Removal}
 use Rattle.patch.specs.declared.Removal.the-variants as Removes
 use Rattle.patch.specs.declared.Removed.{Removed}
 use Rattle.patch.specs.Summing.{summaryGives, summaryNumber}
 use Rattle.patch.specs.Removing.{removeAnswer, removeGives, removalNumber}
-use Rattle.demands.proofs.First.{demand-1, gives-done}
+use Rattle.demands.proofs.First.{summary-number, remove-number, gives-done}
 use Rattle.sumpnewt.specs.Boundary.{sized, handedOut, pageOf}
 
 -- ---- a number
@@ -32,7 +30,7 @@ pub removal-handed : (r : ℕ) (block out : List ℕ) (e f : ℕ) (removed : Rem
     → removed ≡ removeGives block out e f
     → r ≡ removeAnswer block out e f
 removal-handed r block out e f removed h d =
-    h ∙ ap (λ (gives : Removed). removalNumber (gives .removal)) d ∙ demand-1 .remove-number block out e f
+    h ∙ ap (λ (gives : Removed). removalNumber (gives .removal)) d ∙ remove-number block out e f
 
 -- ---- an output of elements
 
@@ -61,7 +59,7 @@ gives-summed block opens = rw (opens, summaryGives)
 
 module _ (block : List ℕ) (given : Summarised) (gives : given ≡ summaryGives block) where
   answers : openAnswer block ≡ summaryNumber given
-  answers = sym (ap summaryNumber gives ∙ demand-1 .summary-number block)
+  answers = sym (ap summaryNumber gives ∙ summary-number block)
 
   pub summary-refused : (n : ℕ) → given ≡ Summarises.Refused n → (openAnswer block ≡ n) × (n ≡ 0 → ⊥)
   summary-refused n refused =

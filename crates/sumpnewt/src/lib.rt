@@ -1,8 +1,9 @@
-// The C boundary: the public calls behind C names, each answering document 01's number. include/sumpnewt.h is their header.
+// The C boundary: the public calls behind C names, each returning the number of its answer. include/sumpnewt.h is their header.
 // A slice is a pointer and a length there. Unless the number is 0 every output element stays as it came.
 ghost use mathlib.Core.Path.{_≡_};
 ghost use lib.ListN.{length};
 ghost use Rattle.block.specs.Answers.{openAnswer, sealAnswer, sealBytes};
+ghost use Rattle.display.specs.Showing.{shownAnswer, shownElements};
 ghost use Rattle.patch.specs.Removing.{removeAnswer, removeBytes};
 ghost use Rattle.patch.specs.Flipping.{flip32Answer, flip32Bytes, flip23Answer, flip23Bytes};
 ghost use Rattle.sumpnewt.specs.Boundary.{summaryNumbers, summaryElements, summaryAnswer, summaryOut, hasWorst, worstNumber, hasOctave, octaveNumber, pageNumbers, pageElements, pageAnswer, pageOut};
@@ -156,6 +157,16 @@ pub extern "C" fn sumpnewt_page(block: &[u8], a: usize, b: usize, row: &mut [f64
         }
         Removal::Refused(number) => number as u32,
     }
+}
+
+// Shows the quality of each row of a block: an element for each row, with its sign, and zeros behind them.
+#[no_mangle]
+pub extern "C" fn sumpnewt_shown(block: &[u8], out: &mut [f64]) -> u32
+    ensures answer { λ r. ⌜ r ≡ shownAnswer (now (block .entry)) (now (out .entry)) ⌝ }
+    ensures elements { λ r. ⌜ now (out .exit) ≡ shownElements (now (block .entry)) (now (out .entry)) ⌝ }
+{
+    let answer = patch::shown(block, out);
+    answer.number() as u32
 }
 
 // Flips the three rows round the edge between the points a and b to two.

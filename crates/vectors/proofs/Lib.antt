@@ -1,2 +1,4 @@
 pub mod Bytes
 pub mod Chains
+pub mod Counted
+pub mod Totals

@@ -1,10 +1,15 @@
 -- The table of counts: a cell for each call and answer.
-use Prim.Native.Nat.{ℕ, _+_, _*_, _%_, _^_}
+use Prim.Native.Nat.{ℕ, _+_, _*_, _/_, _%_, _^_}
 use mathlib.Core.Bool.{Bool, cond}
-use mathlib.Core.List.{List}
-use lib.Dec.{leb}
-use lib.ListN.{getD, set}
+use mathlib.Core.List.{List, foldl}
+use mathlib.Core.Path.{_≡_}
+use lib.Dec.{T, eqb, leb}
+use lib.ListN.{length, getD, set, replicate}
+use Rattle.lists.specs.Lists.{every, sum}
 use Rattle.vectors.specs.declared.counts.Counts.{Counts}
+use Rattle.vectors.specs.declared.counts.Cell.{Cell}
+use Rattle.vectors.specs.Records.{recordBytes, callIn, answerIn}
+use Rattle.vectors.specs.Agreeing.{caseAgrees}
 
 -- the calls, and the answers 0 to 19
 abbrev pub calls : ℕ
@@ -13,9 +18,22 @@ calls = 6
 abbrev pub answers : ℕ
 answers = 20
 
+-- no case of any call and answer
+abbrev pub noCases : Counts
+noCases = record { cases = replicate (calls * answers) 0; agreeing = replicate (calls * answers) 0 }
+
 -- the cells with one more in one place
 abbrev pub withOne : List ℕ → ℕ → List ℕ
 withOne cells at = set cells at ((getD cells at 0 + 1) % 2 ^ 64)
+
+-- what is counted of one call and answer
+abbrev pub cellAt : Counts → ℕ → Cell
+cellAt counts at =
+    record { call = at / answers; answer = at % answers; cases = getD (counts .cases) at 0; agreeing = getD (counts .agreeing) at 0 }
+
+-- all cells together, in 64 bits
+abbrev pub totalOf : List ℕ → ℕ
+totalOf cells = sum cells % 2 ^ 64
 
 -- one case more, and one that agrees if it does; a record of no call or no answer is none
 unfoldable pub counted : Counts → ℕ → ℕ → Bool → Counts
@@ -24,3 +42,17 @@ counted counts call answer agrees =
     let agreeing = cond agrees (withOne (counts .agreeing) at) (counts .agreeing) in
     let next : Counts = record { cases = withOne (counts .cases) at; agreeing = agreeing } in
     cond (leb calls call) counts (cond (leb answers answer) counts next)
+
+-- one record more: a case of its call and answer, which agrees if the call gives what is stored
+abbrev pub recordCounted : Counts → List ℕ → Counts
+recordCounted counts stored = counted counts (callIn stored) (answerIn stored) (caseAgrees stored)
+
+-- a record of all its bytes
+abbrev pub isWhole : List ℕ → Bool
+isWhole stored = eqb (length stored) recordBytes
+
+-- Counts that are those of some whole records, counted one after another.
+pub record Counted (counts : Counts) : Type 0 where
+  pub records : List (List ℕ)
+  pub whole : T (every isWhole records)
+  pub all : counts ≡ foldl recordCounted noCases records

@@ -1,7 +1,12 @@
 // How many cases there are of each call and answer, and how many agree.
 ghost use Prim.Native.Nat.{_*_, _<_};
 ghost use mathlib.Core.Path.{_≡_};
-ghost use Rattle.vectors.specs.Counting.{calls, answers, withOne, counted};
+ghost use lib.ListN.{length};
+ghost use Rattle.vectors.specs.Records.{recordBytes};
+ghost use Rattle.vectors.specs.Counting.{calls, answers, noCases, withOne, cellAt, totalOf, counted, recordCounted};
+use crate::agreeing::agrees;
+use crate::record::ANSWER_AT;
+use crate::record::CALL_AT;
 use libc::STDOUT_FILENO;
 
 // open, seal, summary, remove, flip_32, flip_23.
@@ -18,7 +23,9 @@ pub struct Counts {
     agreeing: [u64; CELLS],
 }
 
-pub fn no_cases() -> Counts {
+pub fn no_cases() -> Counts
+    ensures { λ r. ⌜ r ≡ noCases ⌝ }
+{
     Counts {
         cases: [0; CELLS],
         agreeing: [0; CELLS],
@@ -36,7 +43,7 @@ fn with_one(cells: [u64; CELLS], at: usize) -> [u64; CELLS]
 }
 
 // One case more, and one that agrees if it does; a record of no call or no answer is none.
-pub fn with_case(counts: Counts, call: u8, answer: u8, agrees: bool) -> Counts
+fn with_case(counts: Counts, call: u8, answer: u8, agrees: bool) -> Counts
     ensures { λ r. ⌜ r ≡ counted counts call answer agrees ⌝ }
 {
     let row = call as usize;
@@ -63,7 +70,19 @@ pub fn with_case(counts: Counts, call: u8, answer: u8, agrees: bool) -> Counts
     }
 }
 
-fn total(cells: [u64; CELLS]) -> u64 {
+// One record more: its call is run, and counts as agreeing if it gives what is stored.
+pub fn with_record(counts: Counts, stored: &[u8]) -> Counts
+    requires { ⌜ length (now stored) ≡ recordBytes ⌝ }
+    ensures { λ r. ⌜ r ≡ recordCounted counts (now (stored .entry)) ⌝ }
+{
+    let agreed = agrees(stored);
+    with_case(counts, stored[CALL_AT], stored[ANSWER_AT], agreed)
+}
+
+// All cells together.
+fn total(cells: [u64; CELLS]) -> u64
+    ensures { λ r. ⌜ r ≡ totalOf cells ⌝ }
+{
     let mut sum: u64 = 0;
     for i in 0..CELLS {
         sum = std::num::wrapping_add_u64(sum, cells[i]);
@@ -83,22 +102,46 @@ fn print_name(call: usize) {
     ;
 }
 
+// What one line says.
+struct Cell {
+    call: usize,
+    answer: usize,
+    cases: u64,
+    agreeing: u64,
+}
+
+// What is counted of one call and answer.
+fn cell_at(counts: Counts, at: usize) -> Cell
+    requires { ⌜ at < calls * answers ⌝ }
+    ensures { λ r. ⌜ r ≡ cellAt counts at ⌝ }
+{
+    let cases = counts.cases;
+    let agreeing = counts.agreeing;
+    Cell {
+        call: at / ANSWERS,
+        answer: at % ANSWERS,
+        cases: cases[at],
+        agreeing: agreeing[at],
+    }
+}
+
 // `remove 16: 21 of 21`.
-fn print_cell(at: usize, cases: u64, agreeing: u64) {
-    print_name(at / ANSWERS);
-    io::print_decimal(STDOUT_FILENO, (at % ANSWERS) as u64);
+fn print_cell(cell: Cell) {
+    print_name(cell.call);
+    io::print_decimal(STDOUT_FILENO, cell.answer as u64);
     io::write_all(STDOUT_FILENO, b": ");
-    io::print_decimal(STDOUT_FILENO, agreeing);
+    io::print_decimal(STDOUT_FILENO, cell.agreeing);
     io::write_all(STDOUT_FILENO, b" of ");
-    io::print_decimal(STDOUT_FILENO, cases);
+    io::print_decimal(STDOUT_FILENO, cell.cases);
     io::write_all(STDOUT_FILENO, b"\n");
 }
 
 // A line for each call and answer of which there are cases.
-fn print_cells(cases: [u64; CELLS], agreeing: [u64; CELLS]) {
+fn print_cells(counts: Counts) {
     for i in 0..CELLS {
-        if cases[i] != 0 {
-            print_cell(i, cases[i], agreeing[i]);
+        let cell = cell_at(counts, i);
+        if cell.cases != 0 {
+            print_cell(cell);
         }
     }
 }
@@ -107,7 +150,7 @@ fn print_cells(cases: [u64; CELLS], agreeing: [u64; CELLS]) {
 pub fn print(counts: Counts) {
     let cases = counts.cases;
     let agreeing = counts.agreeing;
-    print_cells(cases, agreeing);
+    print_cells(counts);
     io::print_decimal(STDOUT_FILENO, total(cases));
     io::write_all(STDOUT_FILENO, b" cases, ");
     io::print_decimal(STDOUT_FILENO, total(agreeing));

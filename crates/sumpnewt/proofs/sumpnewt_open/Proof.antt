@@ -3,7 +3,7 @@ use borrow.Author.Needs.{needs}
 use mathlib.Core.Path.{_∙_, ap}
 use Rattle.block.specs.declared.Opened.{Opened}
 use Rattle.block.specs.Answers.{numberOf}
-use Rattle.demands.proofs.First.{demand-1}
+use Rattle.demands.proofs.First.{open-number}
 use Rattle.sumpnewt.proofs.sumpnewt_open.Statement.{statement}
 use Rattle.sumpnewt.proofs.sumpnewt_open.Tie as tie
 
@@ -21,7 +21,7 @@ returns c =
     let opened = c .before in
     c .number .ensures
     ∙ ap (λ (gives : Opened). numberOf (gives .answer)) (opened .open .ensures)
-    ∙ demand-1 .open-number (opened .before .before .args .block .now)
+    ∙ open-number (opened .before .before .args .block .now)
 
 pub sumpnewt-open-spec : {M : Type 1} → statement M
 sumpnewt-open-spec = tie.close (tie.spec open-requires number-requires cast-result returns)

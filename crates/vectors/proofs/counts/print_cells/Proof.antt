@@ -6,31 +6,16 @@ use Rattle.vectors.proofs.counts.print_cells.Statement.{statement}
 use Rattle.vectors.proofs.counts.print_cells.Tie as tie
 
 abbrev Inv-loop : tie.InvT-loop
-Inv-loop cases agreeing i₀ i = i ≤ calls * answers
+Inv-loop counts i₀ i = i ≤ calls * answers
 
 abbrev μ-loop : tie.MeasureT-loop
-μ-loop cases agreeing i₀ i = calls * answers - i
+μ-loop counts i₀ i = calls * answers - i
 
 loop-holds : tie.Need-loop-holds Inv-loop μ-loop
 loop-holds c = omega arith
 
-mul-if1 : tie.Need-mul-if1 Inv-loop μ-loop
-mul-if1 c = omega arith
-
-array-read-if1 : tie.Need-array-read-if1 Inv-loop μ-loop
-array-read-if1 c = omega arith
-
-mul-print-cell : tie.Need-mul-print-cell Inv-loop μ-loop
-mul-print-cell c = omega arith
-
-array-read-print-cell : tie.Need-array-read-print-cell Inv-loop μ-loop
-array-read-print-cell c = omega arith
-
-mul-print-cell-2 : tie.Need-mul-print-cell-2 Inv-loop μ-loop
-mul-print-cell-2 c = omega arith
-
-array-read-print-cell-2 : tie.Need-array-read-print-cell-2 Inv-loop μ-loop
-array-read-print-cell-2 c = omega arith
+cell-at-requires : tie.Need-cell-at-requires Inv-loop μ-loop
+cell-at-requires c κs = omega arith
 
 print-cell-requires : tie.Need-print-cell-requires Inv-loop μ-loop
 print-cell-requires c κs = tt
@@ -54,12 +39,7 @@ print-cells-spec =
     Inv-loop
     μ-loop
     loop-holds
-    mul-if1
-    array-read-if1
-    mul-print-cell
-    array-read-print-cell
-    mul-print-cell-2
-    array-read-print-cell-2
+    cell-at-requires
     print-cell-requires
     add-i
     loop-less

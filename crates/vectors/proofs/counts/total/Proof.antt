@@ -1,18 +1,24 @@
--- The loop passes every cell once.
-use Prim.Native.Nat.{_*_, _≤_, _-_}
+-- The invariant of `total`: the sum is that of the first i cells, in 64 bits.
+use Prim.Native.Nat.{_*_, _≤_, _-_, _%_, _^_}
+use mathlib.Core.Path.{_≡_, refl, ap, _∙_}
 use native.Mathlib.Omega.{arith}
+use borrow.Author.Needs.{needs}
+use lib.ListN.{length, take}
+use lib.Seq.{take-length}
+use Rattle.lists.specs.Lists.{sum as sumOf}
 use Rattle.vectors.specs.Counting.{calls, answers}
+use Rattle.vectors.proofs.Totals.{total-more}
 use Rattle.vectors.proofs.counts.total.Statement.{statement}
 use Rattle.vectors.proofs.counts.total.Tie as tie
 
 abbrev Inv-loop : tie.InvT-loop
-Inv-loop cells sum₀ i₀ sum i = i ≤ calls * answers
+Inv-loop cells sum₀ i₀ sum i = (i ≤ calls * answers) × (sum ≡ sumOf (take i cells) % 2 ^ 64)
 
 abbrev μ-loop : tie.MeasureT-loop
 μ-loop cells sum₀ i₀ sum i = calls * answers - i
 
 loop-holds : tie.Need-loop-holds Inv-loop μ-loop
-loop-holds c = omega arith
+loop-holds c = (omega arith, refl)
 
 mul-wrapping-add-u64 : tie.Need-mul-wrapping-add-u64 Inv-loop μ-loop
 mul-wrapping-add-u64 c = omega arith
@@ -30,10 +36,17 @@ loop-less : tie.Need-loop-less Inv-loop μ-loop
 loop-less c = omega arith
 
 loop-again : tie.Need-loop-again Inv-loop μ-loop
-loop-again c = omega arith
+loop-again c =
+    let l = c .before .before in
+    (omega arith, total-more (l .before .args .t1) (l .loop .i) (l .loop .sum) _ (l .loop .inv .1) (c .wrapping-add-u64 .ensures))
 
 returns : tie.Need-returns Inv-loop μ-loop
-returns c = tt
+returns c =
+    let l = c .before in
+    let cells = l .before .args .t1 in
+    let size : length cells ≡ calls * answers = search needs in
+    let e : l .loop .i ≡ length cells = omega arith in
+    l .loop .inv .1 ∙ ap (λ front. sumOf front % 2 ^ 64) (ap (λ i. take i cells) e ∙ take-length cells)
 
 pub total-spec : {M : Type 1} → statement M
 total-spec =
