@@ -32,14 +32,28 @@
  *
  * Returns: 0 if it is done, else the number of the refusal, the first in this file's order of what is wrong.
  * Refusals: unless the number is 0, every element of the output stays as it came.
- * Inputs: every length and every number has an answer; nothing has to be looked at before a call. A pointer is to as many
- *     elements as the length beside it says; with length 0 it is not used and may be a null pointer.
- * Overlap: the output must not overlap the input. To replace a block by its result, copy it first or write into a second
- *     block.
+ * Inputs: every length and every number has an answer; nothing has to be looked at before a call. No input is written.
  * Threads: a call keeps nothing between calls and touches only its arguments, so calls may run in any number of threads
- *     at once, as long as no other thread writes to their arguments meanwhile.
+ *     at once.
  * Memory: no heap; less than 16 KiB of stack (docs/BENCHMARK.md has what was measured).
  * Time: bounded for every input; docs/BENCHMARK.md has the times.
+ *
+ * WHAT THE CALLER ANSWERS FOR
+ *
+ * The proof speaks of arguments that are what the declarations say. C does not hold a caller to that; what a call does where
+ * one of these is broken lies outside the proof, and no test says it either.
+ *
+ * Lengths: a pointer is to at least as many elements as the length beside it says, at an address that fits their type, and
+ *     those of an input have been written. With length 0 it is not used and may be a null pointer. With any other length no
+ *     call can find out that a pointer is null, or to fewer elements.
+ * Overlap: the output must not overlap the input. To replace a block by its result, copy it first or write into a second
+ *     block.
+ * Other threads: while a call runs no other thread may write to any of its arguments, nor read its output, which is written
+ *     piece by piece.
+ *
+ * Output memory need not be initialised. The proof speaks of the elements that are there on entry, so of memory that was never
+ * written it says nothing; that no call looks at its output before it writes it is tested instead (docs/TESTS.md). A call that
+ * is done has written every element; a refusal has written none, and what was never written must not be read then either.
  */
 #ifndef SUMPNEWT_H
 #define SUMPNEWT_H
@@ -55,6 +69,7 @@ extern "C" {
 #define SUMPNEWT_BLOCK_BYTES 512     /* a block */
 #define SUMPNEWT_FIELDS_BYTES 508    /* what is sealed: a block without its sums */
 #define SUMPNEWT_SUMMARY_ELEMENTS 7  /* a summary */
+#define SUMPNEWT_SHOWN_ELEMENTS 60   /* shown qualities, one for each row that a block can have */
 #define SUMPNEWT_PAGE_ELEMENTS 2     /* a page row */
 
 /* Where a block has what. */
@@ -62,6 +77,9 @@ extern "C" {
 #define SUMPNEWT_MAX_POINTS 64
 #define SUMPNEWT_MAX_ROWS 60
 #define SUMPNEWT_MAX_COORDINATE 128
+#define SUMPNEWT_VERSION_AT 0
+#define SUMPNEWT_POINT_COUNT_AT 1
+#define SUMPNEWT_ROW_COUNT_AT 2
 #define SUMPNEWT_POINTS_AT 16
 #define SUMPNEWT_POINT_BYTES 3
 #define SUMPNEWT_ROWS_AT 208
@@ -127,6 +145,13 @@ uint32_t sumpnewt_seal(const uint8_t *fields, size_t n, uint8_t *out, size_t out
  * out_n must be 7. Answers 0 to 8; 1 also for out_n.
  */
 uint32_t sumpnewt_summary(const uint8_t *block, size_t n, uint64_t *out, size_t out_n);
+
+/*
+ * Shows the quality of each row as one quotient, the rows in order: below 0 for an inverted row, +0.0 for a flat one. The
+ * elements behind the rows are +0.0.
+ * out_n must be 60. Answers 0 to 8; 1 also for out_n.
+ */
+uint32_t sumpnewt_shown(const uint8_t *block, size_t n, double *out, size_t out_n);
 
 /*
  * Removes the edge between the points numbered a and b, in either order: of all ways to fill the room round it without

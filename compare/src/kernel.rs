@@ -7,6 +7,7 @@ mod c {
         pub fn sumpnewt_open(block: *const u8, n: usize) -> u32;
         pub fn sumpnewt_seal(fields: *const u8, n: usize, out: *mut u8, out_n: usize) -> u32;
         pub fn sumpnewt_summary(block: *const u8, n: usize, out: *mut u64, out_n: usize) -> u32;
+        pub fn sumpnewt_shown(block: *const u8, n: usize, out: *mut f64, out_n: usize) -> u32;
         pub fn sumpnewt_remove(
             block: *const u8,
             n: usize,
@@ -57,6 +58,10 @@ pub fn summary(block: &[u8], out: &mut [u64]) -> u32 {
     unsafe { c::sumpnewt_summary(block.as_ptr(), block.len(), out.as_mut_ptr(), out.len()) }
 }
 
+pub fn shown(block: &[u8], out: &mut [f64]) -> u32 {
+    unsafe { c::sumpnewt_shown(block.as_ptr(), block.len(), out.as_mut_ptr(), out.len()) }
+}
+
 pub fn remove(block: &[u8], [a, b]: [usize; 2], out: &mut [u8]) -> u32 {
     let (bytes, n) = (block.as_ptr(), block.len());
     unsafe { c::sumpnewt_remove(bytes, n, a, b, out.as_mut_ptr(), out.len()) }
@@ -83,6 +88,10 @@ pub fn run(call: &Call) -> Option<Outcome> {
         Call::Open { block } => Outcome::Answer(open(&block)),
         Call::Seal { fields, mut out } => Outcome::Bytes(seal(&fields, &mut out), out),
         Call::Summary { block, mut out } => Outcome::Numbers(summary(&block, &mut out), out),
+        Call::Shown { block, mut out } => {
+            let number = shown(&block, &mut out);
+            Outcome::Shown(number, out.into_iter().map(f64::to_bits).collect())
+        }
         Call::Remove {
             block,
             ends,

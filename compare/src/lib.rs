@@ -1,6 +1,6 @@
-//! An independent model of document 01 and the cases to hold a kernel against it.
+//! An independent model of the requirement and the cases to hold a kernel against it.
 //!
-//! `model` renders document 01 by brute force, written for obviousness. `gen` makes seeded cases,
+//! `model` renders docs/REQUIREMENT.md by brute force, written for obviousness. `gen` makes seeded cases,
 //! `rivals` are kernels that get one thing wrong, `tally` counts what the cases cover, `vectors` picks the cases that are
 //! stored for the program of that name, and `quick` is what the benchmark holds the kernel against. `kernel` is the kernel
 //! itself behind its C boundary and `held` holds it to the model; both are there if its archive is.

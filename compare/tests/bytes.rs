@@ -7,7 +7,7 @@ use compare::gen::cases;
 use compare::model::block::with_sums;
 use compare::model::{answer, flip_23, flip_32, open, remove, seal, summary, Call, Patch};
 
-/// Document 01's answers 3 to 8 again, written byte by byte.
+/// The answers 3 to 8 again, written byte by byte.
 fn expected(fields: &[u8; 508]) -> u32 {
     let (points, rows) = (usize::from(fields[1]), usize::from(fields[2]));
     let idle = |at: usize| match at {

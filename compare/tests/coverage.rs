@@ -7,10 +7,11 @@ use std::sync::LazyLock;
 static TALLY: LazyLock<Tally> = LazyLock::new(|| Tally::of(cases(1, 28_000)));
 
 /// The answers each call can get.
-const POSSIBLE: [(&str, &[usize]); 8] = [
+const POSSIBLE: [(&str, &[usize]); 9] = [
     ("open", &[0, 1, 2, 3, 4, 5, 6, 7, 8]),
     ("seal", &[0, 1, 3, 4, 5, 6, 7, 8]),
     ("summary", &[0, 1, 2, 3, 4, 5, 6, 7, 8]),
+    ("shown", &[0, 1, 2, 3, 4, 5, 6, 7, 8]),
     ("remove", &REMOVAL),
     ("page", &REMOVAL),
     ("printout", &REMOVAL),

@@ -1,4 +1,4 @@
-//! "Facts to hold": the twelve facts of document 01, one test each.
+//! "Facts to hold": the twelve facts of the requirement, one test each.
 
 mod common;
 

@@ -2,39 +2,14 @@
 
 mod common;
 
+use common::commands::*;
 use common::*;
 use compare::gen::cases;
 use compare::model::limits::INPUT_BYTES;
-use compare::model::{answer, printout, remove, Call, PageRow, Patch, Row, Summary};
+use compare::model::{answer, printout, remove, shown, Call, PageRow, Patch, Row, Summary};
 use std::ffi::OsStr;
 use std::fs;
-use std::path::{Path, PathBuf};
-use std::process::{Command, Output};
-
-fn house() -> PathBuf {
-    Path::new(env!("CARGO_MANIFEST_DIR")).join("..")
-}
-
-/// A file of this test's own.
-fn scratch(name: &str) -> PathBuf {
-    Path::new(env!("CARGO_TARGET_TMPDIR")).join(name)
-}
-
-#[track_caller]
-fn run(program: impl AsRef<OsStr>, arguments: &[&OsStr]) -> Output {
-    let mut command = Command::new(program);
-    let output = command.current_dir(house()).args(arguments).output();
-    output.expect("it starts")
-}
-
-/// What a command that succeeds prints.
-#[track_caller]
-fn printed(program: impl AsRef<OsStr>, arguments: &[&OsStr]) -> String {
-    let output = run(program, arguments);
-    let said = String::from_utf8_lossy(&output.stderr);
-    assert!(output.status.success() && said.is_empty(), "{said}");
-    String::from_utf8(output.stdout).expect("text")
-}
+use std::path::PathBuf;
 
 /// The patch of a readable text, by a second reading of it.
 fn patch_of(text: &str) -> Patch {
@@ -189,18 +164,20 @@ fn expected_of_the_example() -> String {
     let removal = remove(&block_a().to_bytes(), 0, 1, &mut out).expect("done");
     let PageRow { before, after } = removal.page;
     let page = format!("page row: worst quality {before:.6} before, {after:.6} after\n");
-    line("before", &block_a()) + &line("after", &block_a_after()) + &page
+    let rows = |name: &str, patch: &Patch| {
+        let shown = shown(&patch.to_bytes()).expect("it opens");
+        let shown: String = shown.iter().map(|size| format!(" {size:.6}")).collect();
+        format!("rows {name}:{shown}\n")
+    };
+    let summaries = line("before", &block_a()) + &line("after", &block_a_after());
+    summaries + &page + &rows("before", &block_a()) + &rows("after", &block_a_after())
 }
 
 #[cfg(kernel)]
 #[test]
 fn the_c_example_builds_without_a_warning_and_prints_what_the_model_says() {
-    let program = scratch("remove_edge_c");
-    let archive = house().join("target/native/libsumpnewt.a");
-    let strict = ["-std=c99", "-pedantic", "-Wall", "-Wextra", "-Werror"].map(OsStr::new);
-    let parts = ["-Iinclude", "examples/c/remove_edge.c"].map(OsStr::new);
-    let rest = [archive.as_os_str(), OsStr::new("-o"), program.as_os_str()];
-    printed("cc", &[&strict[..], &parts[..], &rest[..]].concat());
+    let parts = ["examples/c/remove_edge.c", ARCHIVE].map(OsStr::new);
+    let program = built("remove_edge_c", "-std=c99", &parts);
     assert_eq!(printed(&program, &[]), expected_of_the_example());
 }
 

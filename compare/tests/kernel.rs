@@ -15,17 +15,19 @@ mod held {
     use compare::gen::{case, cases, Random};
     use compare::held::Held;
     use compare::model::block::with_sums;
-    use compare::model::call::{PAGE_NUMBERS, SUMMARY_NUMBERS};
+    use compare::model::call::{PAGE_NUMBERS, SHOWN_NUMBERS, SUMMARY_NUMBERS};
     use compare::model::limits::{BLOCK_BYTES, FIELD_BYTES};
     use compare::model::{open, Call, Outcome};
 
     /// Generated cases of the gate; `hold` takes any number.
     const CASES: u64 = 36_000;
+    /// The calls that a block is tried with.
+    const CALLS: u64 = 8;
     /// More than a block and its output together.
     const LENGTHS: usize = 1_100;
 
     /// Every call on a block with these numbers, each with an output of its own length.
-    fn calls_on(block: &[u8], [u, v, w]: [usize; 3]) -> [Call; 7] {
+    fn calls_on(block: &[u8], [u, v, w]: [usize; 3]) -> [Call; CALLS as usize] {
         let block = block.to_vec();
         let out = UNTOUCHED.to_vec();
         let ends = [u, v];
@@ -40,6 +42,10 @@ mod held {
             Call::Summary {
                 block: block.clone(),
                 out: vec![u64::MAX; SUMMARY_NUMBERS],
+            },
+            Call::Shown {
+                block: block.clone(),
+                out: vec![-1.5; SHOWN_NUMBERS],
             },
             Call::Remove {
                 block: block.clone(),
@@ -86,14 +92,14 @@ mod held {
 
     #[test]
     fn on_generated_cases() {
-        Held::of(cases(1, CASES).map(|case| case.call)).expect(30_000);
+        Held::of(cases(1, CASES).map(|case| case.call)).expect(58_000);
     }
 
     #[test]
     fn on_every_change_of_one_byte() {
         for (block, [a, b]) in open_blocks(3) {
             let calls = changes(&block).flat_map(|other| calls_on(&other, [a, b, 2]));
-            Held::of(calls).expect(255 * 512 * 7);
+            Held::of(calls).expect(CALLS * 255 * 512);
         }
     }
 
@@ -105,7 +111,7 @@ mod held {
                 let fields: [u8; FIELD_BYTES] = other.try_into().expect("as many bytes");
                 calls_on(&with_sums(&fields), [0, 1, 2])
             });
-            Held::of(calls).expect(255 * 508 * 7);
+            Held::of(calls).expect(CALLS * 255 * 508);
         }
     }
 
@@ -113,8 +119,17 @@ mod held {
     fn on_every_length() {
         let block = block_a().to_bytes();
         let long: Vec<u8> = block.iter().copied().cycle().take(LENGTHS).collect();
-        let inputs = (0..=LENGTHS).flat_map(|length| calls_on(&long[..length], [0, 1, 2]));
-        Held::of(inputs).expect(7 * LENGTHS as u64);
+        let inputs = (0..=LENGTHS).flat_map(|length| {
+            let mut calls = calls_on(&long[..length], [0, 1, 2]);
+            for call in &mut calls {
+                // Not cut to the length that sealing wants.
+                if let Call::Seal { fields, .. } = call {
+                    *fields = long[..length].to_vec();
+                }
+            }
+            calls
+        });
+        Held::of(inputs).expect(CALLS * (LENGTHS as u64 + 1));
         let outputs = (0..=LENGTHS).flat_map(|length| {
             let mut calls = calls_on(&block, [0, 1, 2]);
             for call in &mut calls {
@@ -125,13 +140,14 @@ mod held {
                     | Call::Flip32 { out, .. }
                     | Call::Flip23 { out, .. } => *out = long[..length].to_vec(),
                     Call::Summary { out, .. } => *out = vec![9; length],
+                    Call::Shown { out, .. } => *out = vec![9.0; length],
                     Call::Page { row, .. } => *row = vec![9.0; length],
                     Call::Printout { .. } => unreachable!("not among them"),
                 }
             }
             calls
         });
-        Held::of(outputs).expect(7 * LENGTHS as u64);
+        Held::of(outputs).expect(CALLS * (LENGTHS as u64 + 1));
     }
 
     #[test]
@@ -142,7 +158,7 @@ mod held {
             .iter()
             .flat_map(|a| numbers.iter().map(move |b| (*a, *b)))
             .flat_map(|(a, b)| calls_on(&block, [a, b, 4]));
-        Held::of(calls).expect(7 * 169);
+        Held::of(calls).expect(CALLS * 169);
     }
 
     #[test]
@@ -168,7 +184,7 @@ mod held {
             .into_iter()
             .flat_map(move |block| calls_on(&block, numbers))
         });
-        Held::of(calls).expect(7 * 12_000);
+        Held::of(calls).expect(CALLS * 12_000);
     }
 
     /// An output block that the kernel has written opens, also for the model.

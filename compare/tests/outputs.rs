@@ -12,6 +12,7 @@ fn came_with(call: &Call) -> Outcome {
         | Call::Flip32 { out, .. }
         | Call::Flip23 { out, .. } => Outcome::Bytes(0, out),
         Call::Summary { out, .. } => Outcome::Numbers(0, out),
+        Call::Shown { out, .. } => Outcome::Shown(0, out.into_iter().map(f64::to_bits).collect()),
         Call::Page { row, .. } => Outcome::Page(0, row.into_iter().map(f64::to_bits).collect()),
         Call::Open { .. } | Call::Printout { .. } => Outcome::Answer(0),
     }
@@ -25,6 +26,9 @@ fn a_refusal_leaves_every_element_of_the_output() {
                 assert_eq!(out, came);
             }
             (Outcome::Numbers(number, out), Outcome::Numbers(_, came)) if number != 0 => {
+                assert_eq!(out, came);
+            }
+            (Outcome::Shown(number, out), Outcome::Shown(_, came)) if number != 0 => {
                 assert_eq!(out, came);
             }
             (Outcome::Page(number, row), Outcome::Page(_, came)) if number != 0 => {

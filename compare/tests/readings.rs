@@ -1,4 +1,4 @@
-//! Points of document 01 that are easy to take another way.
+//! Points of the requirement that are easy to take another way.
 
 mod common;
 

@@ -1,5 +1,5 @@
 //! What does not matter: the order of the ends, and of the rows and their numbers up to what
-//! document 01 says of kept rows and the region.
+//! the requirement says of kept rows and the region.
 
 mod common;
 

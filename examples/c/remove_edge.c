@@ -1,5 +1,5 @@
 /*
- * Builds a patch by hand, seals it, removes an edge and prints the summaries and the page row.
+ * Builds a patch by hand, seals it, removes an edge and prints the summaries, the page row and the quality of each row.
  *
  *     compare/archive sumpnewt
  *     cc -Wall -Wextra -Werror -Iinclude examples/c/remove_edge.c target/native/libsumpnewt.a -o target/remove_edge_c
@@ -44,6 +44,21 @@ static uint32_t print_summary(const char *name, const uint8_t *block) {
     return SUMPNEWT_DONE;
 }
 
+static uint32_t print_shown(const char *name, const uint8_t *block) {
+    double shown[SUMPNEWT_SHOWN_ELEMENTS];
+    uint32_t number = sumpnewt_shown(block, SUMPNEWT_BLOCK_BYTES, shown, SUMPNEWT_SHOWN_ELEMENTS);
+    int row;
+    if (number != SUMPNEWT_DONE) {
+        return number;
+    }
+    printf("rows %s:", name);
+    for (row = 0; row < block[SUMPNEWT_ROW_COUNT_AT]; row++) {
+        printf(" %.6f", shown[row]);
+    }
+    printf("\n");
+    return SUMPNEWT_DONE;
+}
+
 int main(void) {
     uint8_t fields[SUMPNEWT_FIELDS_BYTES] = {0};
     uint8_t before[SUMPNEWT_BLOCK_BYTES];
@@ -51,9 +66,9 @@ int main(void) {
     double page[SUMPNEWT_PAGE_ELEMENTS];
     uint32_t number;
 
-    fields[0] = SUMPNEWT_VERSION;
-    fields[1] = sizeof points / sizeof points[0];
-    fields[2] = sizeof rows / sizeof rows[0];
+    fields[SUMPNEWT_VERSION_AT] = SUMPNEWT_VERSION;
+    fields[SUMPNEWT_POINT_COUNT_AT] = sizeof points / sizeof points[0];
+    fields[SUMPNEWT_ROW_COUNT_AT] = sizeof rows / sizeof rows[0];
     memcpy(fields + SUMPNEWT_POINTS_AT, points, sizeof points);
     memcpy(fields + SUMPNEWT_ROWS_AT, rows, sizeof rows);
 
@@ -78,5 +93,12 @@ int main(void) {
     }
     printf("page row: worst quality %.6f before, %.6f after\n", page[SUMPNEWT_WORST_BEFORE],
            page[SUMPNEWT_WORST_AFTER]);
+    number = print_shown("before", before);
+    if (number == SUMPNEWT_DONE) {
+        number = print_shown("after", after);
+    }
+    if (number != SUMPNEWT_DONE) {
+        return refused("sumpnewt_shown", number);
+    }
     return 0;
 }

@@ -12,6 +12,7 @@ mod random;
 mod rings;
 mod scene;
 mod shapes;
+mod shown;
 mod summaries;
 mod templates;
 
@@ -78,7 +79,11 @@ fn drawn(mut number: usize) -> Family {
     unreachable!("the shares make a hundred")
 }
 
-/// The first `count` cases of a seed.
+/// The first `count` cases of a seed, each with one more that shows the rows of its block.
 pub fn cases(seed: u64, count: u64) -> impl Iterator<Item = Case> {
-    (0..count).map(move |index| case(seed, index))
+    (0..count).flat_map(move |index| {
+        let case = case(seed, index);
+        let shown = shown::shown(&mut Random::of_case(!seed, index), &case);
+        [Some(case), shown].into_iter().flatten()
+    })
 }

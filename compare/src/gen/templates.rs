@@ -60,7 +60,7 @@ pub const EQUAL_CHOOSES: [&[Point]; 4] = [
     &[[2, 2, 1], [0, 2, 2], [1, 3, 0], [2, 3, 0], [1, 2, 0], [3, 1, 0], [1, 0, 0], [2, 3, 2]],
 ];
 
-/// Document 01's octahedron: every old and every new row has the same D and S.
+/// The octahedron of fact 6: every old and every new row has the same D and S.
 #[rustfmt::skip]
 pub const OCTAHEDRON: &[Point] =
     &[[6, 6, 12], [6, 6, 0], [12, 6, 6], [6, 12, 6], [0, 6, 6], [6, 0, 6]];

@@ -3,16 +3,32 @@
 use super::answer;
 use super::block::{open, seal};
 use super::flips::{flip_23, flip_32};
-use super::limits::BLOCK_BYTES;
+use super::limits::{BLOCK_BYTES, MAX_ROWS};
 use super::measure::PageRow;
 use super::printout::printout;
 use super::removal::remove;
+use super::shown::shown;
 use super::summary::{summary, Summary};
 
 /// Numbers that a summary is handed out as.
 pub const SUMMARY_NUMBERS: usize = 7;
+/// Numbers that shown qualities are handed out as: one for each row that a block can have.
+pub const SHOWN_NUMBERS: usize = MAX_ROWS;
 /// Numbers of a page row.
 pub const PAGE_NUMBERS: usize = 2;
+
+/// The places of a summary's numbers and of a page row's.
+pub mod place {
+    pub const UPRIGHT: usize = 0;
+    pub const FLAT: usize = 1;
+    pub const INVERTED: usize = 2;
+    pub const HAS_WORST: usize = 3;
+    pub const WORST: usize = 4;
+    pub const HAS_OCTAVE: usize = 5;
+    pub const OCTAVE: usize = 6;
+    pub const WORST_BEFORE: usize = 0;
+    pub const WORST_AFTER: usize = 1;
+}
 
 /// One call with all its inputs; `out` and `row` are the output as it came.
 #[derive(Clone, Debug, PartialEq)]
@@ -27,6 +43,10 @@ pub enum Call {
     Summary {
         block: Vec<u8>,
         out: Vec<u64>,
+    },
+    Shown {
+        block: Vec<u8>,
+        out: Vec<f64>,
     },
     Remove {
         block: Vec<u8>,
@@ -60,6 +80,8 @@ pub enum Outcome {
     Bytes(u32, Vec<u8>),
     Numbers(u32, Vec<u64>),
     /// The bits of each f64, so that 0.0 and -0.0 differ.
+    Shown(u32, Vec<u64>),
+    /// Bits too.
     Page(u32, Vec<u64>),
     Text(String),
 }
@@ -71,6 +93,7 @@ impl Outcome {
             Outcome::Answer(number)
             | Outcome::Bytes(number, _)
             | Outcome::Numbers(number, _)
+            | Outcome::Shown(number, _)
             | Outcome::Page(number, _) => *number,
             Outcome::Text(text) => {
                 let first = text.lines().next().expect("a printout has a line");
@@ -87,6 +110,10 @@ pub fn run(call: &Call) -> Outcome {
         Call::Open { block } => Outcome::Answer(number_of(open(&block))),
         Call::Seal { fields, mut out } => Outcome::Bytes(seal(&fields, &mut out), out),
         Call::Summary { block, mut out } => Outcome::Numbers(summary_into(&block, &mut out), out),
+        Call::Shown { block, mut out } => {
+            let number = shown_into(&block, &mut out);
+            Outcome::Shown(number, out.into_iter().map(f64::to_bits).collect())
+        }
         Call::Remove {
             block,
             ends: [a, b],
@@ -118,7 +145,6 @@ fn number_of<T>(outcome: Result<T, u32>) -> u32 {
     outcome.err().unwrap_or(answer::DONE)
 }
 
-/// Upright, flat, inverted, has_worst, worst, has_octave, octave; 0 where there is a mark.
 fn summary_into(block: &[u8], out: &mut [u64]) -> u32 {
     if out.len() != SUMMARY_NUMBERS {
         return answer::LENGTH;
@@ -132,15 +158,36 @@ fn summary_into(block: &[u8], out: &mut [u64]) -> u32 {
     }
 }
 
+/// The numbers of a summary; both of a mark are 0.
 fn as_numbers(summary: Summary) -> [u64; SUMMARY_NUMBERS] {
-    let [upright, flat, inverted] = [summary.upright, summary.flat, summary.inverted];
-    let marked = |mark: Option<u32>| [u64::from(mark.is_some()), u64::from(mark.unwrap_or(0))];
-    let [has_worst, worst] = marked(summary.worst);
-    let [has_octave, octave] = marked(summary.octave);
-    let counts = [upright, flat, inverted].map(|count| count as u64);
-    [
-        counts[0], counts[1], counts[2], has_worst, worst, has_octave, octave,
-    ]
+    let mut numbers = [0; SUMMARY_NUMBERS];
+    numbers[place::UPRIGHT] = summary.upright as u64;
+    numbers[place::FLAT] = summary.flat as u64;
+    numbers[place::INVERTED] = summary.inverted as u64;
+    if let Some(worst) = summary.worst {
+        numbers[place::HAS_WORST] = 1;
+        numbers[place::WORST] = u64::from(worst);
+    }
+    if let Some(octave) = summary.octave {
+        numbers[place::HAS_OCTAVE] = 1;
+        numbers[place::OCTAVE] = u64::from(octave);
+    }
+    numbers
+}
+
+/// The shown quality of each row with its sign, then zeros.
+fn shown_into(block: &[u8], out: &mut [f64]) -> u32 {
+    if out.len() != SHOWN_NUMBERS {
+        return answer::LENGTH;
+    }
+    match shown(block) {
+        Ok(mut rows) => {
+            rows.resize(SHOWN_NUMBERS, 0.0);
+            out.copy_from_slice(&rows);
+            answer::DONE
+        }
+        Err(number) => number,
+    }
 }
 
 /// "there is a page row only with answer 0 of a removal".
@@ -151,7 +198,8 @@ fn page_into(block: &[u8], [a, b]: [usize; 2], row: &mut [f64]) -> u32 {
     match remove(block, a, b, &mut [0; BLOCK_BYTES]) {
         Ok(removal) => {
             let PageRow { before, after } = removal.page;
-            row.copy_from_slice(&[before, after]);
+            row[place::WORST_BEFORE] = before;
+            row[place::WORST_AFTER] = after;
             answer::DONE
         }
         Err(number) => number,

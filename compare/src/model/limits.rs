@@ -1,4 +1,4 @@
-//! The numbers of document 01, each once.
+//! The numbers of the requirement, each once.
 
 /// "The patch block, 512 bytes".
 pub const BLOCK_BYTES: usize = 512;

@@ -1,4 +1,4 @@
-//! Document 01 by brute force. Every public call says its answer for all inputs.
+//! The requirement (docs/REQUIREMENT.md) by brute force. Every public call says its answer for all inputs.
 
 pub mod answer;
 pub mod block;
@@ -11,6 +11,7 @@ pub mod pieces;
 pub mod printout;
 pub mod removal;
 pub mod ring;
+pub mod shown;
 pub mod summary;
 pub mod triangulations;
 
@@ -21,4 +22,5 @@ pub use measure::{PageRow, Point, Quality, Shown};
 pub use mesh::Row;
 pub use printout::printout;
 pub use removal::{remove, Removal};
+pub use shown::shown;
 pub use summary::{summary, Summary};

@@ -3,10 +3,11 @@
 use super::answer;
 use super::block::{open, Patch};
 use super::limits::{BLOCK_BYTES, LONGEST_RING, MAX_ROWS, SHORTEST_RING};
-use super::measure::{determinant, PageRow, Quality, Shown};
+use super::measure::{determinant, PageRow, Quality};
 use super::mesh::Row;
 use super::pieces::Pieces;
 use super::ring::{site, Site};
+use super::shown::shown_row;
 use super::summary::worst_row;
 use super::triangulations::new_rows;
 
@@ -99,6 +100,5 @@ pub fn total_d(patch: &Patch) -> i64 {
 
 /// "Worst is taken over all rows of the patch"; a removal has rows before and after.
 fn shown_worst(patch: &Patch) -> f64 {
-    let worst = worst_row(patch).expect("the patch has rows");
-    Shown::of(Quality::of(patch.corners(worst))).signed()
+    shown_row(patch, worst_row(patch).expect("the patch has rows"))
 }

@@ -1,4 +1,4 @@
-//! Removal written a second time, by document 001's tables, and kernels that get one thing wrong.
+//! Removal written a second time, by the published method's tables (Shewchuk 2002), and kernels that get one thing wrong.
 //!
 //! Without a fault it has to agree with `model` on every case. With a fault it shows whether the
 //! cases can tell that wrong kernel from a right one.

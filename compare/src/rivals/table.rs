@@ -1,4 +1,4 @@
-//! Document 001's FILLTABLES, with the kept rows' faces in it; places are counted from 0.
+//! FILLTABLES of the published method (Shewchuk 2002), with the kept rows' faces in it; places are counted from 0.
 
 use super::order::compare;
 use super::{seen_quality, Fault};

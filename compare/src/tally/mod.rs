@@ -58,6 +58,7 @@ impl Tally {
             self.disagreements.push(format!("got {number}: {case:?}"));
         }
         self.add_page(&outcome);
+        self.add_shown(&case.call, &outcome);
         let Some((block, ends)) = edge_of(&case.call) else {
             return;
         };
@@ -104,6 +105,24 @@ impl Tally {
         self.point("page row: zero after", after == 0.0);
         self.point("page row: positive after", after > 0.0);
         self.point("page row: worst unchanged", before == after);
+    }
+
+    fn add_shown(&mut self, call: &Call, outcome: &Outcome) {
+        let (Call::Shown { block, .. }, Outcome::Shown(answer::DONE, out)) = (call, outcome) else {
+            return;
+        };
+        let count = open(block).expect("it is shown").rows.len();
+        let rows: Vec<f64> = out[..count].iter().copied().map(f64::from_bits).collect();
+        let any = |holds: fn(f64) -> bool| rows.iter().any(|shown| holds(*shown));
+        let (upright, flat, inverted) = (any(|q| q > 0.0), any(|q| q == 0.0), any(|q| q < 0.0));
+        self.point("shown: no rows", count == 0);
+        self.point("shown: 60 rows", count == MAX_ROWS);
+        self.point("shown: a flat row", flat);
+        self.point("shown: an inverted row", inverted);
+        self.point(
+            "shown: rows of all three signs",
+            upright && flat && inverted,
+        );
     }
 
     fn add_rivals(&mut self, patch: &Patch, ends: [usize; 2], right: Result<&Patch, u32>) {
@@ -226,6 +245,7 @@ pub fn name(call: &Call) -> &'static str {
         Call::Open { .. } => "open",
         Call::Seal { .. } => "seal",
         Call::Summary { .. } => "summary",
+        Call::Shown { .. } => "shown",
         Call::Remove { .. } => "remove",
         Call::Page { .. } => "page",
         Call::Flip32 { .. } => "flip 3-2",

@@ -5,7 +5,9 @@ mod pick;
 mod record;
 
 pub use pick::{picked, reasons};
-pub use record::{record, PART_BYTES, RECORD_BYTES};
+pub use record::{
+    record, ANSWER_AT, CALL_AT, FIGURES_AT, OUTPUT_AT, PART_BYTES, RECORD_BYTES, RING_AT,
+};
 
 use crate::gen::Case;
 use crate::model::{run, Call};
@@ -33,8 +35,8 @@ pub struct Given<'a> {
     pub numbers: &'a [usize],
 }
 
-/// What the call is given. Page rows come with the removal, and the printout is another program's: neither is a call
-/// of the kernel.
+/// What the call is given. Page rows come with the removal, shown qualities are not stored, and the printout is another
+/// program's: none is a call of the kernel in a record.
 pub fn given(call: &Call) -> Option<Given<'_>> {
     let (input, output, numbers): (&[u8], Option<&[u8]>, &[usize]) = match call {
         Call::Open { block } | Call::Summary { block, .. } => (block, None, &[]),
@@ -42,7 +44,7 @@ pub fn given(call: &Call) -> Option<Given<'_>> {
         Call::Remove { block, ends, out } => (block, Some(out), ends),
         Call::Flip32 { block, ends, out } => (block, Some(out), ends),
         Call::Flip23 { block, face, out } => (block, Some(out), face),
-        Call::Page { .. } | Call::Printout { .. } => return None,
+        Call::Shown { .. } | Call::Page { .. } | Call::Printout { .. } => return None,
     };
     Some(Given {
         input,
@@ -60,7 +62,9 @@ pub fn call_number(call: &Call) -> usize {
         Call::Remove { .. } => 3,
         Call::Flip32 { .. } => 4,
         Call::Flip23 { .. } => 5,
-        Call::Page { .. } | Call::Printout { .. } => unreachable!("no call of the kernel"),
+        Call::Shown { .. } | Call::Page { .. } | Call::Printout { .. } => {
+            unreachable!("not in a record")
+        }
     }
 }
 

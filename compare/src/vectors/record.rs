@@ -25,11 +25,17 @@ pub const RECORD_BYTES: usize = OUTPUT_AT + PART_BYTES;
 /// The most bytes of an input or an output.
 pub const PART_BYTES: usize = 520;
 
+/// The call, and the answer.
+pub const CALL_AT: usize = 0;
+pub const ANSWER_AT: usize = 1;
+/// The numbers of a summary, or the bits of the page row.
+pub const FIGURES_AT: usize = 32;
+pub const RING_AT: usize = 88;
+/// The output after the call.
+pub const OUTPUT_AT: usize = INPUT_AT + PART_BYTES;
+
 const NUMBERS_AT: usize = 8;
-const FIGURES_AT: usize = 32;
-const RING_AT: usize = 88;
 const INPUT_AT: usize = 112;
-const OUTPUT_AT: usize = INPUT_AT + PART_BYTES;
 
 /// What a call gives besides its answer.
 #[derive(Default)]
@@ -45,8 +51,8 @@ pub fn record(call: &Call) -> [u8; RECORD_BYTES] {
     let output = given.output.unwrap_or(&[]);
     let gives = gives(call);
     let mut record = [0; RECORD_BYTES];
-    record[0] = call_number(call) as u8;
-    record[1] = run(call).answer() as u8;
+    record[CALL_AT] = call_number(call) as u8;
+    record[ANSWER_AT] = run(call).answer() as u8;
     put(&mut record, 2, &(given.input.len() as u16).to_le_bytes());
     put(&mut record, 4, &(output.len() as u16).to_le_bytes());
     record[6] = output.first().copied().unwrap_or(0);

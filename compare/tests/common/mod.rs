@@ -2,6 +2,8 @@
 
 #![allow(dead_code)]
 
+pub mod commands;
+
 use compare::gen::{cases, Random};
 use compare::model::limits::BLOCK_BYTES;
 use compare::model::mesh::{even_arrangements, mesh_rule, EVEN};
@@ -19,7 +21,7 @@ pub fn patch(points: &[Point], rows: &[[u8; 4]], region: u8) -> Patch {
     }
 }
 
-/// Document 01's block A.
+/// Block A of the facts.
 pub fn block_a() -> Patch {
     patch(
         &[[4, 4, 12], [4, 4, 0], [0, 0, 6], [12, 0, 6], [0, 12, 6]],
