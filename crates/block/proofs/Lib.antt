@@ -1,6 +1,7 @@
 pub mod Cells
 pub mod SumLaws
 pub mod Refusals
+pub mod ByNumber
 pub mod Parts
 pub mod Right
 pub mod Written

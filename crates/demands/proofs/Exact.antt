@@ -21,7 +21,8 @@ use Rattle.ring.proofs.Sites.{numbers-right}
 use Rattle.pieces.specs.Triangulation.{Tri, Triangle, triangles, rowsAfter}
 use Rattle.pieces.proofs.Rings.{RingWay}
 use Rattle.patch.specs.Removing.{blockTests, noRoom, noWay, removalTests, removeAnswer, Sound}
-use Rattle.patch.proofs.Answering.{unlike, both-passed, reached, removes}
+use Rattle.block.proofs.ByNumber.{unlike, both-passed}
+use Rattle.patch.proofs.Answering.{reached, removes}
 use Rattle.demands.specs.Kernels.{ours}
 use Rattle.demands.specs.Ways.{Way}
 use Rattle.demands.specs.Rounds.{TwoPoints, edgeAt, Ringed, FlatChain, HasRoom, Premises}

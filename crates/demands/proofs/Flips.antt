@@ -35,7 +35,8 @@ use Rattle.patch.specs.Flipping.{apexOver, Pair, pairOf, threeRows, patchAfter2
 use Rattle.patch.specs.Flipping.{flip23Bytes}
 use Rattle.demands.specs.Kernels.{ours}
 use Rattle.demands.specs.Orders.{SameMesh, SameOutput, AnyRowOrder}
-use Rattle.patch.proofs.Answering.{same-behind, block-opened, flips-23}
+use Rattle.block.proofs.ByNumber.{same-behind}
+use Rattle.patch.proofs.Answering.{block-opened, flips-23}
 use Rattle.demands.proofs.Pairs.{Over}
 use Rattle.demands.proofs.Rows.{other-way, same-output, remove-answer-same, ring-given-same, remove-output-same}
 use Rattle.demands.proofs.Rows.{flip32-answer-same, flip32-output-same}

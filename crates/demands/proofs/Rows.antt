@@ -44,7 +44,8 @@ use Rattle.patch.specs.declared.Removed.{Removed}
 use Rattle.patch.specs.Removing.{removeAnswer, removeBytes, removeGives, Sound}
 use Rattle.patch.specs.Flipping.{flip32Tests, flip32Answer, flip32Bytes}
 use Rattle.demands.specs.Orders.{SameMesh, SameOutput}
-use Rattle.patch.proofs.Answering.{same-behind, block-opened, taken, removes, flips-32}
+use Rattle.block.proofs.ByNumber.{same-behind}
+use Rattle.patch.proofs.Answering.{block-opened, taken, removes, flips-32}
 use Rattle.patch.proofs.Sites.{sound-site, ends-fit}
 use Rattle.demands.proofs.Choosing.{length-fits, some-way, site-chosen, total-stays}
 use Rattle.demands.proofs.Standing.{worst-now}

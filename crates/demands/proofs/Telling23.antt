@@ -24,7 +24,8 @@ use Rattle.block.proofs.Refusals.{goes-on, refuses, passed}
 use Rattle.block.proofs.Right.{opens}
 use Rattle.ring.specs.Ring.{smallest, numbersWrong}
 use Rattle.patch.specs.Flipping.{apexOver, Pair, pairOf, threeRows, patchAfter23, flip23Tests, flip23Answer}
-use Rattle.patch.proofs.Answering.{both-passed, flip23-left}
+use Rattle.block.proofs.ByNumber.{both-passed}
+use Rattle.patch.proofs.Answering.{flip23-left}
 use Rattle.demands.specs.Kernels.{ours}
 use Rattle.demands.specs.FlipWords.{ThreePoints, facing, OneApex, Faced, after23, Roomy, Tells23}
 use Rattle.demands.proofs.Pairs.{two-only}

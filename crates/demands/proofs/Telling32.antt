@@ -24,7 +24,8 @@ use Rattle.pieces.specs.Admissible.{admissible, pieceAdmissible, closingFaces, 
 use Rattle.pieces.proofs.Admissible.{ring-admissible}
 use Rattle.patch.specs.Removing.{blockTests, removalTests, removeAnswer, noWay, Sound}
 use Rattle.patch.specs.Flipping.{flip32Tests, flip32Answer}
-use Rattle.patch.proofs.Answering.{unlike, both-passed, reached, closed-tests, flip32-left}
+use Rattle.block.proofs.ByNumber.{unlike, both-passed}
+use Rattle.patch.proofs.Answering.{reached, closed-tests, flip32-left}
 use Rattle.patch.proofs.Sites.{sound-site}
 use Rattle.demands.specs.Rounds.{Round, AllClose, TwoCircles, Held, edgeAt}
 use Rattle.demands.specs.Kernels.{ours, removes}

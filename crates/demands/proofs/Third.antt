@@ -23,7 +23,8 @@ use Rattle.pieces.proofs.Worsts.{row-fraction, worst-over}
 use Rattle.pieces.proofs.Rings.{RingWay, BestWay, way-listed, listed-way, worst-row}
 use Rattle.patch.specs.Removing.{blockTests, worstNow, noRoom, noWay, noneBetter, patchAfter, totalDiffers, removalTests}
 use Rattle.patch.specs.Removing.{removeAnswer, removeBytes, Sound}
-use Rattle.patch.proofs.Answering.{unlike, both-passed, reached}
+use Rattle.block.proofs.ByNumber.{unlike, both-passed}
+use Rattle.patch.proofs.Answering.{reached}
 use Rattle.demands.specs.Kernels.{ours}
 use Rattle.demands.specs.Ways.{tableBy, NoneBetter}
 use Rattle.demands.specs.Rounds.{edgeAt, Premises}

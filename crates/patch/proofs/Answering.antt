@@ -1,61 +1,22 @@
 -- The answers of the calls as statements: what answer 0 says of each test, and what the tests of a block and an edge leave.
 use Prim.Native.Nat.{ℕ, _≤_}
-use mathlib.Core.Bool.{Bool, true, false, cond, not, _||_}
+use mathlib.Core.Bool.{Bool, true, false, not, _||_}
 use mathlib.Core.List.{List, [], _∷_, _++_}
 use mathlib.Core.Path.{_≡_, refl, sym, ap, _∙_, subst}
 use borrow.Author.Tests.{eqb-true, eqb-false, eq-eqb, ltb-false, not-false}
 use lib.Dec.{T, eqb, ltb}
 use lib.ListN.{length}
 use Rattle.lists.specs.Lists.{every}
-use Rattle.lists.proofs.Tests.{and-l, and-r, no-is, is-yes, neither-is, or-true}
+use Rattle.lists.proofs.Tests.{is-yes, neither-is, or-true}
 use Rattle.mesh.specs.Mesh.{keepsMeshRule}
 use Rattle.block.specs.Layout.{blockBytes, maxRows, fieldsOf}
 use Rattle.block.specs.Answers.{Tests, firstRefusal, notBlock, sumWrong, bodyTests, openAnswer}
 use Rattle.block.proofs.Refusals.{passed, goes-on, refuses}
+use Rattle.block.proofs.ByNumber.{unlike, both-passed, front-passed}
 use Rattle.ring.specs.Ring.{Site, siteOf, m, minRing, numbersWrong, ringsAlone, orChains, linkOpen, lengthWrong, notFlat, edgeTests}
 use Rattle.ring.proofs.Sites.{closed-passed}
 use Rattle.patch.specs.Removing.{blockTests, noRoom, noWay, noneBetter, patchAfter, totalDiffers, removalTests, removeAnswer, Sound}
 use Rattle.patch.specs.Flipping.{flip32Tests, flip32Answer, pairOf, patchAfter23, flip23Tests, flip23Answer}
-
--- ---- tests one after another
-
--- no test gives n
-abbrev pub unlike : ℕ → Tests → Bool
-unlike n tests = every (λ test. not (eqb (test .0) n)) tests
-
--- an answer that no test in front gives comes from behind, and those in front are passed
-pub both-passed : (n : ℕ) (xs ys : Tests) → T (unlike n xs) → firstRefusal (xs ++ ys) ≡ n → (firstRefusal xs ≡ 0) × (firstRefusal ys ≡ n)
-unfolding firstRefusal every
-both-passed n [] ys h e = (refl, e)
-both-passed n ((k, b) ∷ xs) ys h e = go b e (both-passed n xs ys (and-r (not (eqb k n)) (unlike n xs) h))
-  where
-    go : (b : Bool) → cond b k (firstRefusal (xs ++ ys)) ≡ n → (firstRefusal (xs ++ ys) ≡ n → (firstRefusal xs ≡ 0) × (firstRefusal ys ≡ n))
-        → (cond b k (firstRefusal xs) ≡ 0) × (firstRefusal ys ≡ n)
-    go true e f = absurd (eqb-false k n (no-is (eqb k n) (and-l (not (eqb k n)) (unlike n xs) h)) e)
-    go false e f = f e
-
-pub front-passed : (xs ys : Tests) → T (unlike 0 xs) → firstRefusal xs ≡ 0 → firstRefusal (xs ++ ys) ≡ firstRefusal ys
-unfolding firstRefusal every
-front-passed [] ys h e = refl
-front-passed ((k, b) ∷ xs) ys h e = go b e (front-passed xs ys (and-r (not (eqb k 0)) (unlike 0 xs) h))
-  where
-    go : (b : Bool) → cond b k (firstRefusal xs) ≡ 0 → (firstRefusal xs ≡ 0 → firstRefusal (xs ++ ys) ≡ firstRefusal ys)
-        → cond b k (firstRefusal (xs ++ ys)) ≡ firstRefusal ys
-    go true e f = absurd (eqb-false k 0 (no-is (eqb k 0) (and-l (not (eqb k 0)) (unlike 0 xs) h)) e)
-    go false e f = f e
-
--- tests behind others matter only if those are passed
-pub same-behind : (xs ys zs : Tests) → (firstRefusal xs ≡ 0 → firstRefusal ys ≡ firstRefusal zs)
-    → firstRefusal (xs ++ ys) ≡ firstRefusal (xs ++ zs)
-unfolding firstRefusal
-same-behind [] ys zs f = f refl
-same-behind ((k, b) ∷ xs) ys zs f = go b f (same-behind xs ys zs)
-  where
-    go : (b : Bool) → (cond b k (firstRefusal xs) ≡ 0 → firstRefusal ys ≡ firstRefusal zs)
-        → ((firstRefusal xs ≡ 0 → firstRefusal ys ≡ firstRefusal zs) → firstRefusal (xs ++ ys) ≡ firstRefusal (xs ++ zs))
-        → cond b k (firstRefusal (xs ++ ys)) ≡ cond b k (firstRefusal (xs ++ zs))
-    go true f below = refl
-    go false f below = below f
 
 -- ---- the block and the edge
 

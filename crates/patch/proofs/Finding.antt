@@ -22,7 +22,8 @@ use Rattle.ring.proofs.Sites.{found-rows}
 use Rattle.ring.proofs.Order.{site-ordered}
 use Rattle.patch.specs.Removing.{blockTests}
 use Rattle.patch.specs.Steps.{edgeAnswer, edgeFound, foundNone}
-use Rattle.patch.proofs.Answering.{front-passed, block-numbered, block-passed}
+use Rattle.block.proofs.ByNumber.{front-passed}
+use Rattle.patch.proofs.Answering.{block-numbered, block-passed}
 
 -- ---- both lengths, then opening
 

@@ -13,7 +13,7 @@ use Rattle.measure.specs.Page.{shown, pageRow}
 use Rattle.mesh.specs.Mesh.{rowQuality, totalD}
 use Rattle.block.specs.Layout.{Patch, maxRows, fieldsOf, bytesOf}
 use Rattle.block.specs.Answers.{Tests, firstRefusal, notBlock, sumWrong, bodyTests, openAnswer, written}
-use Rattle.ring.specs.Ring.{Site, siteOf, m, orChains, edgeTests, lengthWrong, notFlat, ringWith}
+use Rattle.ring.specs.Ring.{Site, siteOf, m, orChains, edgeTests, lengthTests, notFlat, ringWith}
 use Rattle.pieces.specs.Triangulation.{ways, tableAfter, rowsAfter}
 use Rattle.pieces.specs.Admissible.{admissible}
 use Rattle.pieces.specs.Best.{worstOfWay, ringWays, chosen}
@@ -52,15 +52,18 @@ patchAfter site = record { points = site .points; rows = tableAfter site (chosen
 unfoldable pub totalDiffers : Patch → Patch → Bool
 totalDiffers before after = not (sameZ (totalD (before .points) (before .rows)) (totalD (after .points) (after .rows)))
 
--- answers 13 to 17 of a removal, and 19 directly after 13
-unfoldable pub removalTests : Patch → Site → Tests
-removalTests patch site =
-    (13, lengthWrong site)
-    ∷ (19, notFlat site)
+-- answers 19 and 14 to 17 of a removal: whether the ring or chain is replaced
+abbrev pub replacementTests : Patch → Site → Tests
+replacementTests patch site =
+    (19, notFlat site)
     ∷ (14, noRoom site)
     ∷ (15, noWay site)
     ∷ (16, noneBetter site)
     ∷ (17, totalDiffers patch (patchAfter site)) ∷ []
+
+-- answers 13 to 17 of a removal, and 19 directly after 13
+unfoldable pub removalTests : Patch → Site → Tests
+removalTests patch site = lengthTests site ++ replacementTests patch site
 
 -- ---- the removal of edge e f
 

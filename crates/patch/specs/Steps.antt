@@ -1,7 +1,7 @@
 -- The steps that the calls on an edge share: the edge with its ring or chain, the rows afterwards, and answers 19 and 14 to 17.
 use Prim.Native.Nat.{ℕ, _-_, _≤_, _<_}
 use mathlib.Core.Bool.{Bool, false, cond}
-use mathlib.Core.List.{List, [], _∷_, _++_}
+use mathlib.Core.List.{List, [], _++_}
 use mathlib.Core.Option.{some}
 use mathlib.Core.Path.{_≡_}
 use lib.Dec.{T, eqb}
@@ -14,7 +14,7 @@ use Rattle.block.specs.Answers.{firstRefusal, answerOf}
 use Rattle.tally.specs.Measured.{Placed, Measured}
 use Rattle.ring.specs.declared.Found.{Found}
 use Rattle.ring.specs.declared.Ring.{Ring}
-use Rattle.ring.specs.Ring.{Site, siteOf, m, maxRing, edgeTests, lengthWrong, notFlat, ringWith}
+use Rattle.ring.specs.Ring.{Site, siteOf, m, maxRing, edgeTests, lengthTests, ringWith}
 use Rattle.ring.specs.Found.{foundWith}
 use Rattle.ring.specs.Sound.{SoundRing}
 use Rattle.pieces.specs.Triangulation.{tableAfter}
@@ -26,7 +26,7 @@ use Rattle.patch.specs.declared.carrying.Rows.{Rows}
 use Rattle.patch.specs.declared.carrying.Carried.{Carried}
 use Rattle.patch.specs.declared.planning.Plan.{Plan}
 use Rattle.patch.specs.declared.removing.Outcome.{Outcome}
-use Rattle.patch.specs.Removing.{blockTests, noRoom, noWay, noneBetter, patchAfter, totalDiffers, removeAnswer, removeGives}
+use Rattle.patch.specs.Removing.{blockTests, replacementTests, removeAnswer, removeGives}
 use Rattle.patch.specs.Flipping.{flip32Answer}
 
 -- ---- the edge
@@ -35,7 +35,7 @@ use Rattle.patch.specs.Flipping.{flip32Answer}
 unfoldable pub edgeAnswer : Bool → List ℕ → List ℕ → ℕ → ℕ → ℕ
 edgeAnswer chains block out e f =
     let site = siteOf (fieldsOf block) e f in
-    firstRefusal (blockTests block out ++ edgeTests chains site e f ++ (13, lengthWrong site) ∷ [])
+    firstRefusal (blockTests block out ++ edgeTests chains site e f ++ lengthTests site)
 
 -- a refusal returns its number and nothing else
 abbrev pub foundNone : Answer → Found
@@ -77,13 +77,7 @@ pub record Crossed (coordinates : List ℕ) (count a b : ℕ) (ring : Ring) : Ty
 
 -- 19 and 14 to 17, tested from the top
 unfoldable pub planAnswer : Patch → Site → ℕ
-planAnswer patch site =
-    firstRefusal
-    ((19, notFlat site)
-    ∷ (14, noRoom site)
-    ∷ (15, noWay site)
-    ∷ (16, noneBetter site)
-    ∷ (17, totalDiffers patch (patchAfter site)) ∷ [])
+planAnswer patch site = firstRefusal (replacementTests patch site)
 
 -- a refusal returns its number and nothing else
 abbrev pub noPlan : Answer → Plan

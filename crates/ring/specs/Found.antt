@@ -1,7 +1,7 @@
 -- What finding the ring round an edge gives, and what the arrays of the walk hold.
 use Prim.Native.Nat.{ℕ, _*_, _≤_, _<_}
 use mathlib.Core.Bool.{Bool, false, cond, _&&_, _||_}
-use mathlib.Core.List.{List, [], _∷_, map, List·Memᴰ}
+use mathlib.Core.List.{List, [], _++_, map, List·Memᴰ}
 use mathlib.Core.Option.{Option, none, some}
 use mathlib.Core.Path.{_≡_}
 use lib.Dec.{T, eqb, ltb}
@@ -16,14 +16,13 @@ use Rattle.ring.specs.declared.Found.{Found}
 use Rattle.ring.specs.declared.Links.{Links}
 use Rattle.ring.specs.declared.Trail.{Trail}
 use Rattle.ring.specs.Ring.{Link, link, starts, smallest, heads, Site, siteOf, minRing, maxRing, ringWith}
-use Rattle.ring.specs.Ring.{edgeMissing, linkOpen, manyCircles, lengthWrong}
+use Rattle.ring.specs.Ring.{roundTests, lengthTests}
 
 -- ---- the ring or its refusal
 
 -- 10 to 13, tested from the top, by what the call takes
 unfoldable pub ringTests : Bool → Site → Tests
-ringTests chains site =
-    (10, edgeMissing site) ∷ (11, linkOpen chains site) ∷ (12, manyCircles site) ∷ (13, lengthWrong site) ∷ []
+ringTests chains site = roundTests chains site ++ lengthTests site
 
 -- an answer and, with answer 0, whether the ring is closed, and the ring
 abbrev pub foundWith : ℕ → Site → Found

@@ -181,13 +181,17 @@ lengthWrong site = ltb (m site) minRing || ltb maxRing (m site)
 abbrev pub notFlat : Site → Bool
 notFlat site = not (site .closed || flat site)
 
+-- 10 to 12 of a call on an edge, by what it takes
+abbrev pub roundTests : Bool → Site → Tests
+roundTests chains site = (10, edgeMissing site) ∷ (11, linkOpen chains site) ∷ (12, manyCircles site) ∷ []
+
 -- 9 to 12 of a call on an edge, by what it takes
 unfoldable pub edgeTests : Bool → Site → ℕ → ℕ → Tests
-edgeTests chains site e f =
-    (9, numbersWrong (length (site .points)) (e ∷ f ∷ []))
-    ∷ (10, edgeMissing site)
-    ∷ (11, linkOpen chains site)
-    ∷ (12, manyCircles site) ∷ []
+edgeTests chains site e f = (9, numbersWrong (length (site .points)) (e ∷ f ∷ [])) ∷ roundTests chains site
+
+-- 13 of a removal
+abbrev pub lengthTests : Site → Tests
+lengthTests site = (13, lengthWrong site) ∷ []
 
 -- ---- the ring as a type
 
