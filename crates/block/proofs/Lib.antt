@@ -1,9 +1,5 @@
-pub mod Cells
-pub mod SumLaws
-pub mod Refusals
-pub mod ByNumber
-pub mod Parts
-pub mod Right
-pub mod Written
-pub mod Trip
-pub mod Answering
+pub mod RightBlocks
+pub mod RightWritten
+pub mod RoundTrip
+pub mod OpenedAndSealed
+pub mod AnswersDecided

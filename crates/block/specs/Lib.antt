@@ -1,4 +1,2 @@
-pub mod Layout
-pub mod Answers
-pub mod PlainSums
-pub mod Within
+pub mod Opening
+pub mod Holding

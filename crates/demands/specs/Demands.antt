@@ -1,60 +1,44 @@
 -- Requirement §11: the three demands, as statements about any kernel. All premises and arrows stand in them, and what is said of a block is
 -- said in words of the layout and the mesh rule, never by an answer; the table of answers stands in demand 1 alone, which fixes the numbers.
 use Prim.Native.Nat.{ℕ, min, max}
-use mathlib.Core.Bool.{Bool, not}
-use mathlib.Core.List.{List, [], _∷_, _++_}
+use mathlib.Core.Bool.{Bool}
+use mathlib.Core.List.{List, [], _∷_}
 use mathlib.Core.Logic.{_↔_}
 use mathlib.Core.Path.{_≡_}
 use lib.Dec.{T}
 use lib.Ieee.{Float}
 use lib.ListN.{length}
-use Rattle.lists.specs.Lists.{has, those}
-use Rattle.measure.specs.Page.{shown, pageRow}
-use Rattle.mesh.specs.declared.Row.{Row}
-use Rattle.mesh.specs.Mesh.{MeshRule, totalD, holdsEdge, holdsFace}
-use Rattle.block.specs.declared.Answer.the-variants.{Done as Fine}
-use Rattle.block.specs.Layout.{Patch, blockBytes, bodyBytes, maxRows, fieldsOf, bytesOf}
-use Rattle.block.specs.Within.{Kept, RightBody, RightBlock}
-use Rattle.block.specs.Answers.{openAnswer, openFields, noFields, sealAnswer}
+use Rattle.lists.specs.Lists.{has}
+use Rattle.page.specs.Page.{shown, pageRow}
+use Rattle.rows.specs.Rows.{holdsEdge, holdsFace}
+use Rattle.answers.specs.declared.Answer.the-variants.{Done as Fine}
+use Rattle.layout.specs.Layout.{Patch, blockBytes, bodyBytes, maxRows, fieldsOf, bytesOf}
+use Rattle.block.specs.Holding.{Holdable, RightBlock}
+use Rattle.body.specs.Body.{RightBody}
+use Rattle.block.specs.Opening.{openAnswer, sealAnswer}
+use Rattle.layout.specs.Layout.{openFields, noFields}
+use Rattle.tally.specs.Tally.{worstOfPatch}
+use Rattle.display.specs.Display.{shownAnswer, shownOf}
 use Rattle.ring.specs.Ring.{Site, ringWith}
-use Rattle.pieces.specs.Triangulation.{Triangle, newRows}
-use Rattle.pieces.specs.Best.{chosen}
-use Rattle.tally.specs.Summing.{worstOfPatch}
-use Rattle.display.specs.Showing.{shownAnswer, shownOf}
-use Rattle.patch.specs.declared.Removal.the-variants.{Done}
-use Rattle.patch.specs.declared.Removed.{Removed}
-use Rattle.patch.specs.Removing.{removeAnswer}
-use Rattle.patch.specs.Flipping.{flip32Answer, flip23Answer}
+use Rattle.triangulation.specs.Triangulation.{Triangle, newRows}
+use Rattle.triangulation.specs.Best.{chosen}
+use Rattle.calls.specs.declared.Removal.the-variants.{Done}
+use Rattle.calls.specs.declared.Removed.{Removed}
+use Rattle.calls.specs.Removing.{removeAnswer}
+use Rattle.calls.specs.Flipping.{flip32Answer, flip23Answer}
+use Rattle.tables.specs.FlipRows.{new32, new23}
+use Rattle.accepted.specs.CallNumbers.{openNumbers, sealNumbers, removeNumbers, flip32Numbers, flip23Numbers}
+use Rattle.accepted.specs.Accepted.{Accepted}
 use Rattle.demands.specs.Kernels.{Kernel, opens, summarises, shows, seals, removes, flips32, flips23, asPatch}
-use Rattle.demands.specs.Rounds.{edgeAt, Premises}
-use Rattle.demands.specs.FlipWords.{RingOfThree, new32, Roomy, new23}
+use Rattle.demands.specs.Premises.{edgeAt, Premises}
+use Rattle.demands.specs.FlipWords.{RingOfThree, Roomy}
 use Rattle.demands.specs.Summaries.{Summarises}
-use Rattle.demands.specs.Ways.{tableBy, Way, NoneBetter, AsGoodAsAny}
+use Rattle.demands.specs.TriangleSets.{tableBy, Way, NoneBetter, AsGoodAsAny}
 
 -- ---- Demand 1
 -- Whatever bytes and numbers it is given, each call answers, and the caller need not have looked at anything before. The number is the one
 -- that the table of answers gives, and one of that call's list; any number but 0 comes alone, and the output block has the bytes that it
 -- came with.
-
--- the numbers that opening, the summary and what is shown answer
-abbrev pub openNumbers : List ℕ
-openNumbers = 0 ∷ 1 ∷ 2 ∷ 3 ∷ 4 ∷ 5 ∷ 6 ∷ 7 ∷ 8 ∷ []
-
--- the numbers that sealing answers
-abbrev pub sealNumbers : List ℕ
-sealNumbers = 0 ∷ 1 ∷ 3 ∷ 4 ∷ 5 ∷ 6 ∷ 7 ∷ 8 ∷ []
-
--- the numbers that a removal answers
-abbrev pub removeNumbers : List ℕ
-removeNumbers = openNumbers ++ (9 ∷ 10 ∷ 11 ∷ 12 ∷ 13 ∷ 19 ∷ 14 ∷ 15 ∷ 16 ∷ 17 ∷ [])
-
--- the numbers that a 3-2 flip answers
-abbrev pub flip32Numbers : List ℕ
-flip32Numbers = openNumbers ++ (9 ∷ 10 ∷ 11 ∷ 12 ∷ 13 ∷ 15 ∷ [])
-
--- the numbers that a 2-3 flip answers
-abbrev pub flip23Numbers : List ℕ
-flip23Numbers = openNumbers ++ (9 ∷ 10 ∷ 11 ∷ 18 ∷ 14 ∷ 15 ∷ [])
 
 -- Each call's number is the one that the table of answers gives, tested from the top. What the table says of a block is said again, without
 -- a test, in Words of a removal and in FlipWords of both flips.
@@ -102,15 +86,6 @@ pub record Sealed (body out output : List ℕ) : Type 0 where
   pub right : RightBlock output
   pub same : fieldsOf output ≡ fieldsOf body
 
--- What a removal or a flip that is done leaves: a right block with the input's points, the rows that stay first, in order and unchanged,
--- then the new rows; no directed face stands in two of them, and the total D is the input's.
-pub record Accepted (block output : List ℕ) (goes : Row → Bool) (new : List Row) : Type 0 where
-  pub right : RightBlock output
-  pub points : fieldsOf output .points ≡ fieldsOf block .points
-  pub rows : fieldsOf output .rows ≡ those (λ row. not (goes row)) (fieldsOf block .rows) ++ new
-  pub rule : MeshRule (length (fieldsOf output .points)) (fieldsOf output .rows)
-  pub volume : totalD (fieldsOf output .points) (fieldsOf output .rows) ≡ totalD (fieldsOf block .points) (fieldsOf block .rows)
-
 -- A removal that is done: its edge meets the third demand's premises, and the new rows are those of that ring's or chain's chosen way;
 -- beside the bytes stand the page row and v1..vm.
 pub record RemovalDone (block out : List ℕ) (e f : ℕ) (gives : Removed) (output : List ℕ) : Type 0 where
@@ -151,7 +126,7 @@ pub record Demand2 (k : Kernel) : Type 0 where
   pub read-patch : (block : List ℕ) → RightBlock block → asPatch (k .read block .fields) ≡ fieldsOf block
   pub read-right : (block : List ℕ) → opens k block ≡ 0 → RightBlock block
   pub layout : (block : List ℕ) → RightBlock block → bytesOf (fieldsOf block) ≡ block
-  pub layout-back : (patch : Patch) → Kept patch → RightBlock (bytesOf patch) × (fieldsOf (bytesOf patch) ≡ patch)
+  pub layout-back : (patch : Patch) → Holdable patch → RightBlock (bytesOf patch) × (fieldsOf (bytesOf patch) ≡ patch)
   pub summary : Summarises k
   pub summary-right : (block : List ℕ) → summarises k block ≡ 0 → RightBlock block
   pub shown : (block : List ℕ) (out : List Float) → RightBlock block → length out ≡ maxRows

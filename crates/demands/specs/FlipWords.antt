@@ -2,25 +2,22 @@
 -- its words are true of the block. That a flip gives no other numbers stands in the first demand.
 use Prim.Native.Nat.{ℕ, _+_, _≤_, _<_, min, max}
 use mathlib.Core.Bool.{true, not}
-use mathlib.Core.List.{List, [], _∷_, _++_, List·Memᴰ}
+use mathlib.Core.List.{List, [], _∷_}
 use mathlib.Core.Logic.{_↔_}
 use mathlib.Core.Path.{_≡_}
 use lib.Dec.{T}
 use lib.ListN.{length}
-use Rattle.lists.specs.Lists.{every, any, those, count, has, different}
-use Rattle.mesh.specs.declared.Row.{Row}
-use Rattle.mesh.specs.Mesh.{holds, holdsEdge, holdsFace, usesEitherWay, keepsMeshRule}
-use Rattle.block.specs.Layout.{Patch, blockBytes, maxRows, fieldsOf}
-use Rattle.block.specs.Within.{RightBlock}
+use Rattle.lists.specs.Lists.{any, different}
+use Rattle.rows.specs.declared.Row.{Row}
+use Rattle.rows.specs.Rows.{holdsEdge}
+use Rattle.mesh.specs.Mesh.{usesEitherWay}
+use Rattle.layout.specs.Layout.{blockBytes, maxRows, fieldsOf}
+use Rattle.block.specs.Holding.{RightBlock}
 use Rattle.ring.specs.Ring.{minRing}
-use Rattle.pieces.specs.Triangulation.{regionOf}
-use Rattle.demands.specs.Rounds.{linked, Round, AllClose, TwoCircles, TwoPoints, Held}
+use Rattle.tables.specs.RoundAnEdge.{Round, AllClose, TwoCircles}
+use Rattle.tables.specs.FlipRows.{KeepsRule, off, after32, facing, OneApex, Apexes, ReadFrom, after23}
+use Rattle.demands.specs.Premises.{TwoPoints, Held}
 use Rattle.demands.specs.Kernels.{Kernel, flips32, flips23}
-use Rattle.demands.specs.Orders.{Apexes}
-
--- the table keeps the mesh rule, with the points of the patch
-abbrev pub Keeps : Patch → List Row → Type 0
-Keeps patch rows = T (keepsMeshRule (length (patch .points)) rows)
 
 -- ---- the 3-2 flip
 
@@ -33,24 +30,6 @@ pub record RingOfThree (block out : List ℕ) (e f u v w : ℕ) : Type 0 where
   pub right : RightBlock block
   pub right-length : length out ≡ blockBytes
   pub round : Round (fieldsOf block .rows) (min e f) (max e f) true (u ∷ v ∷ w ∷ [])
-
--- the rows that do not hold the edge
-abbrev pub off : List Row → ℕ → ℕ → List Row
-off rows a b = those (λ row. not (holdsEdge a b row)) rows
-
--- (a,u,v,w) and (u,v,w,b)
-abbrev pub rowsAcross : ℕ → ℕ → ℕ → ℕ → ℕ → ℕ → List Row
-rowsAcross a b u v w region =
-    record { p = a; q = u; r = v; s = w; region = region }
-    ∷ record { p = u; q = v; r = w; s = b; region = region } ∷ []
-
--- the new rows of the flip of a, b in the ring u, v, w: these two, with the region of the first row that goes
-abbrev pub new32 : List Row → ℕ → ℕ → ℕ → ℕ → ℕ → List Row
-new32 rows a b u v w = rowsAcross a b u v w (regionOf (those (holdsEdge a b) rows))
-
--- the table after the flip: the rows that do not hold the edge, then the new ones
-abbrev pub after32 : List Row → ℕ → ℕ → ℕ → ℕ → ℕ → List Row
-after32 rows a b u v w = off rows a b ++ new32 rows a b u v w
 
 -- 9 and 10; 11, 12 and 13, where some row holds the edge; in a ring of three, 15 where the table afterwards would break the mesh rule, which
 -- is where one of the other rows has the triangle for a face; and otherwise 0.
@@ -68,12 +47,12 @@ pub record Tells32 (k : Kernel) : Type 0 where
       → (flips32 k block out e f ≡ 13) ↔ NotThree (fieldsOf block .rows) (min e f) (max e f)
   pub fifteen : (block out : List ℕ) (e f u v w : ℕ) → RingOfThree block out e f u v w
       → let patch = fieldsOf block in
-      (flips32 k block out e f ≡ 15) ↔ (Keeps patch (after32 (patch .rows) (min e f) (max e f) u v w) → ⊥)
+      (flips32 k block out e f ≡ 15) ↔ (KeepsRule patch (after32 (patch .rows) (min e f) (max e f) u v w) → ⊥)
   pub fifteen-by-triangle : (block out : List ℕ) (e f u v w : ℕ) → RingOfThree block out e f u v w
       → (flips32 k block out e f ≡ 15) ↔ T (any (usesEitherWay (u, v, w)) (off (fieldsOf block .rows) (min e f) (max e f)))
   pub done : (block out : List ℕ) (e f u v w : ℕ) → RingOfThree block out e f u v w
       → let patch = fieldsOf block in
-      (flips32 k block out e f ≡ 0) ↔ Keeps patch (after32 (patch .rows) (min e f) (max e f) u v w)
+      (flips32 k block out e f ≡ 0) ↔ KeepsRule patch (after32 (patch .rows) (min e f) (max e f) u v w)
 
 -- ---- the 2-3 flip
 
@@ -84,41 +63,11 @@ pub record ThreePoints (block : List ℕ) (x y z : ℕ) : Type 0 where
   pub below-z : z < length (fieldsOf block .points)
   pub apart : T (different (x ∷ y ∷ z ∷ []))
 
--- how many rows hold the face
-abbrev pub facing : List Row → ℕ → ℕ → ℕ → ℕ
-facing rows x y z = count (holdsFace (x ∷ y ∷ z ∷ [])) rows
-
--- Both apexes are one point: two rows hold the face, and both hold a besides.
-pub record OneApex (rows : List Row) (x y z a : ℕ) : Type 0 where
-  pub two : facing rows x y z ≡ 2
-  pub apart : T (different (a ∷ x ∷ y ∷ z ∷ []))
-  pub both : (row : Row) → List·Memᴰ row rows → T (holdsFace (x ∷ y ∷ z ∷ []) row) → T (holds row a)
-
 -- A valid block, an output block of the right length, and a face in two rows with different apexes.
 pub record Faced (block out : List ℕ) (x y z a b : ℕ) : Type 0 where
   pub right : RightBlock block
   pub right-length : length out ≡ blockBytes
   pub apexes : Apexes (fieldsOf block .rows) x y z a b
-
--- a's row in the order in which the flip reads it: (a,u,v,w), evenly rearranged, with the numbers of the face and u the smallest of them
-pub record ReadFrom (rows : List Row) (x y z a u v w : ℕ) : Type 0 where
-  pub row : T (linked rows a u v w)
-  pub of-face : T (every (has (x ∷ y ∷ z ∷ [])) (u ∷ v ∷ w ∷ []))
-  pub smallest : (n : ℕ) → List·Memᴰ n (x ∷ y ∷ z ∷ []) → u ≤ n
-
--- (a,b,u,v), (a,b,v,w) and (a,b,w,u)
-abbrev pub rowsRound : ℕ → ℕ → ℕ → ℕ → ℕ → ℕ → List Row
-rowsRound a b u v w region =
-    let row : ℕ → ℕ → Row = λ r s. record { p = a; q = b; r = r; s = s; region = region } in
-    row u v ∷ row v w ∷ row w u ∷ []
-
--- the new rows of the flip: these three, with the region of the first row that goes
-abbrev pub new23 : List Row → List ℕ → ℕ → ℕ → ℕ → ℕ → ℕ → List Row
-new23 rows face a b u v w = rowsRound a b u v w (regionOf (those (holdsFace face) rows))
-
--- the table after the flip: the rows that do not hold the face, then the new ones
-abbrev pub after23 : List Row → List ℕ → ℕ → ℕ → ℕ → ℕ → ℕ → List Row
-after23 rows face a b u v w = those (λ row. not (holdsFace face row)) rows ++ new23 rows face a b u v w
 
 -- Such a face with room for one row more; a is the smaller apex and its row reads (a,u,v,w).
 pub record Roomy (block out : List ℕ) (x y z a b u v w : ℕ) : Type 0 where
@@ -142,7 +91,7 @@ pub record Tells23 (k : Kernel) : Type 0 where
       → (flips23 k block out x y z ≡ 14) ↔ (maxRows < length (fieldsOf block .rows) + 1)
   pub fifteen : (block out : List ℕ) (x y z a b u v w : ℕ) → Roomy block out x y z a b u v w
       → let patch = fieldsOf block in
-      (flips23 k block out x y z ≡ 15) ↔ (Keeps patch (after23 (patch .rows) (x ∷ y ∷ z ∷ []) a b u v w) → ⊥)
+      (flips23 k block out x y z ≡ 15) ↔ (KeepsRule patch (after23 (patch .rows) (x ∷ y ∷ z ∷ []) a b u v w) → ⊥)
   pub done : (block out : List ℕ) (x y z a b u v w : ℕ) → Roomy block out x y z a b u v w
       → let patch = fieldsOf block in
-      (flips23 k block out x y z ≡ 0) ↔ Keeps patch (after23 (patch .rows) (x ∷ y ∷ z ∷ []) a b u v w)
+      (flips23 k block out x y z ≡ 0) ↔ KeepsRule patch (after23 (patch .rows) (x ∷ y ∷ z ∷ []) a b u v w)

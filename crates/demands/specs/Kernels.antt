@@ -4,18 +4,19 @@
 use Prim.Native.Nat.{ℕ}
 use mathlib.Core.List.{List}
 use lib.Ieee.{Float}
-use Rattle.block.specs.declared.Answer.{Answer}
-use Rattle.block.specs.declared.Fields.{Fields}
+use Rattle.answers.specs.declared.Answer.{Answer}
+use Rattle.layout.specs.declared.Fields.{Fields}
 use Rattle.block.specs.declared.Opened.{Opened}
-use Rattle.block.specs.Layout.{Patch}
-use Rattle.block.specs.Answers.{openGives, answerOf, numberOf, sealAnswer, sealBytes}
-use Rattle.tally.specs.Measured.{patchIn}
-use Rattle.display.specs.Showing.{shownAnswer, shownElements}
-use Rattle.patch.specs.declared.Summarised.{Summarised}
-use Rattle.patch.specs.declared.Removed.{Removed}
-use Rattle.patch.specs.Summing.{summaryGives, summaryNumber}
-use Rattle.patch.specs.Removing.{removeGives, removeBytes, removalNumber}
-use Rattle.patch.specs.Flipping.{flip32Answer, flip32Bytes, flip23Answer, flip23Bytes}
+use Rattle.layout.specs.Layout.{Patch}
+use Rattle.block.specs.Opening.{openGives, sealAnswer, sealBytes}
+use Rattle.answers.specs.Answers.{answerOf, numberOf}
+use Rattle.tally.specs.Tally.{patchIn}
+use Rattle.display.specs.Display.{shownAnswer, shownElements}
+use Rattle.calls.specs.declared.Summarised.{Summarised}
+use Rattle.calls.specs.declared.Removed.{Removed}
+use Rattle.calls.specs.Summarising.{summaryGives, summaryNumber}
+use Rattle.calls.specs.Removing.{removeGives, removeBytes, removalNumber}
+use Rattle.calls.specs.Flipping.{flip32Answer, flip32Bytes, flip23Answer, flip23Bytes}
 
 -- A kernel: a field for each public call, with the bytes of the output block afterwards where the call has one.
 pub record Kernel : Type 0 where

@@ -1,6 +1,6 @@
 pub mod Kernels
-pub mod Ways
-pub mod Rounds
+pub mod TriangleSets
+pub mod Premises
 pub mod Words
 pub mod Orders
 pub mod FlipWords

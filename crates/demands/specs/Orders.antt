@@ -8,13 +8,14 @@ use mathlib.Core.Logic.{_↔_}
 use mathlib.Core.Path.{_≡_}
 use lib.Dec.{T}
 use lib.ListN.{length, take, drop}
-use Rattle.lists.specs.Lists.{any, count, different}
-use Rattle.mesh.specs.declared.Row.{Row}
-use Rattle.mesh.specs.Mesh.{numbers, holdsEdge, holdsFace}
-use Rattle.mesh.specs.Tetrahedra.{SameTetrahedra}
-use Rattle.block.specs.Layout.{blockBytes, fieldsOf}
-use Rattle.block.specs.Within.{RightBlock}
-use Rattle.demands.specs.Rounds.{Ringed, FlatChain}
+use Rattle.lists.specs.Lists.{any, count}
+use Rattle.rows.specs.declared.Row.{Row}
+use Rattle.rows.specs.Rows.{numbers, holdsEdge, holdsFace}
+use Rattle.rows.specs.Tetrahedra.{SameTetrahedra}
+use Rattle.layout.specs.Layout.{blockBytes, fieldsOf}
+use Rattle.block.specs.Holding.{RightBlock}
+use Rattle.tables.specs.FlipRows.{Apexes}
+use Rattle.demands.specs.Premises.{Ringed, FlatChain}
 use Rattle.demands.specs.Kernels.{Kernel, removes, flips32, flips23}
 
 -- ---- room
@@ -78,12 +79,6 @@ pub record AnyRowOrder (k : Kernel) : Type 0 where
       → SameOutput (holdsFace (x ∷ y ∷ z ∷ [])) block other (k .flip23 block out x y z .1) (k .flip23 other out x y z .1)
 
 -- ---- 3-2 after 2-3
-
--- The apexes over a face x, y, z, in either order: five different points, where one row holds the face and a, another the face and b.
-pub record Apexes (rows : List Row) (x y z a b : ℕ) : Type 0 where
-  pub apart : T (different (a ∷ b ∷ x ∷ y ∷ z ∷ []))
-  pub over-a : T (any (holdsFace (a ∷ x ∷ y ∷ z ∷ [])) rows)
-  pub over-b : T (any (holdsFace (b ∷ x ∷ y ∷ z ∷ [])) rows)
 
 -- the rows that hold the face have one region
 abbrev pub OneRegion : List Row → ℕ → ℕ → ℕ → Type 0

@@ -10,19 +10,20 @@ use lib.IntN.{ℤ, pos, natAbs}
 use lib.ListN.{length}
 use lib.Signed.{ltZ}
 use Rattle.lists.specs.Lists.{count, those, sum}
-use Rattle.measure.specs.declared.Point.{Point}
-use Rattle.measure.specs.declared.Score.{Score}
-use Rattle.measure.specs.declared.WorstScore.the-variants.{Worst, NoRows}
-use Rattle.measure.specs.declared.Octave.the-variants.{Exponent, NoUpright}
-use Rattle.measure.specs.Measure.{sameZ, qualityFactor, worse}
-use Rattle.measure.specs.Marks.{lowestScore, highestScore, scoreFactor}
-use Rattle.measure.specs.Page.{CarriesOver}
-use Rattle.mesh.specs.declared.Row.{Row}
-use Rattle.mesh.specs.Mesh.{rowD, rowS, rowQuality}
-use Rattle.block.specs.Layout.{Patch, fieldsOf}
-use Rattle.block.specs.Within.{RightBlock}
-use Rattle.tally.specs.declared.Summary.{Summary}
-use Rattle.patch.specs.declared.Summarised.the-variants.{Summary as Summed}
+use Rattle.volume.specs.declared.Point.{Point}
+use Rattle.score.specs.declared.Score.{Score}
+use Rattle.score.specs.declared.WorstScore.the-variants.{Worst, NoRows}
+use Rattle.score.specs.declared.Octave.the-variants.{Exponent, NoUpright}
+use Rattle.volume.specs.Volume.{sameZ}
+use Rattle.quality.specs.Quality.{qualityFactor, worse}
+use Rattle.score.specs.Score.{lowestScore, highestScore, scoreFactor}
+use Rattle.page.specs.Page.{CarriesOver}
+use Rattle.rows.specs.declared.Row.{Row}
+use Rattle.rows.specs.RowMeasure.{rowD, rowS, rowQuality}
+use Rattle.layout.specs.Layout.{Patch, fieldsOf}
+use Rattle.block.specs.Holding.{RightBlock}
+use Rattle.summary.specs.declared.Summary.{Summary}
+use Rattle.calls.specs.declared.Summarised.the-variants.{Summary as Summed}
 use Rattle.demands.specs.Kernels.{Kernel}
 
 -- ---- rows by the sign of D

@@ -7,14 +7,14 @@ use mathlib.Core.Path.{_≡_}
 use lib.Dec.{T}
 use lib.ListN.{length}
 use Rattle.lists.specs.Lists.{any, has}
-use Rattle.mesh.specs.Mesh.{holdsEdge}
-use Rattle.block.specs.Layout.{blockBytes, fieldsOf}
-use Rattle.block.specs.Within.{RightBlock}
-use Rattle.pieces.specs.Triangulation.{Triangle}
+use Rattle.rows.specs.Rows.{holdsEdge}
+use Rattle.layout.specs.Layout.{blockBytes, fieldsOf}
+use Rattle.block.specs.Holding.{RightBlock}
+use Rattle.triangulation.specs.Triangulation.{Triangle}
+use Rattle.tables.specs.RoundAnEdge.{AllClose, TwoCircles, OneChain, WrongLength}
 use Rattle.demands.specs.Kernels.{Kernel, removes}
-use Rattle.demands.specs.Ways.{Way}
-use Rattle.demands.specs.Rounds.{edgeAt, Ringed, FlatChain, HasRoom, Premises, TwoPoints, Held}
-use Rattle.demands.specs.Rounds.{AllClose, TwoCircles, OneChain, WrongLength}
+use Rattle.demands.specs.TriangleSets.{Way}
+use Rattle.demands.specs.Premises.{edgeAt, Ringed, FlatChain, HasRoom, Premises, TwoPoints, Held}
 
 -- 16 is given under the third demand's premises alone; so is 0, by the second demand
 abbrev pub Only16 : Kernel → Type 0

@@ -1,2 +1,2 @@
-pub mod Elements
-pub mod Showing
+pub mod ElementsInOrder
+pub mod ShownRows

@@ -1,27 +1,32 @@
-// The shown quality of each row of a block, as the page gets it: one f64 a row.
+// What the page is shown: the quality of each row of a block, one f64 a row; and the page row.
 ghost use Prim.Native.Nat.{_≤_};
 ghost use mathlib.Core.Path.{_≡_};
-ghost use lib.ListN.{length};
-ghost use Rattle.block.specs.Layout.{maxRows};
-ghost use Rattle.block.specs.Answers.{answerOf};
-ghost use Rattle.tally.specs.Measured.{Measured, patchIn};
-ghost use Rattle.display.specs.Showing.{shownAnswer, shownAt, shownOf, shownElements};
-use block::Answer;
-use block::BODY_BYTES;
-use block::MAX_ROWS;
-use block::POINTS_AT;
-use block::ROWS_AT;
+ghost use lib.ListN.{length, getD};
+ghost use Rattle.page.specs.Page.{shown, pageRow};
+ghost use Rattle.layout.specs.Layout.{maxRows};
+ghost use Rattle.answers.specs.Answers.{answerOf};
+ghost use Rattle.tally.specs.Steps.{Measured};
+ghost use Rattle.tally.specs.Tally.{patchIn, worstOfPatch};
+ghost use Rattle.display.specs.Display.{plusZero, shownAnswer, shownOf, shownElements};
+use answers::Answer;
+use layout::BODY_BYTES;
+use layout::MAX_ROWS;
+use layout::POINTS_AT;
+use layout::ROWS_AT;
+use output::Rows;
+use page::PageRow;
+use page::Shown;
 
 // Element i: what is shown of row i, and zero behind the rows.
 fn element(coordinates: &[u8], count: usize, table: &[u8], n: usize, i: usize) -> f64
     requires { ⌜ Measured (now coordinates) count (now table) n ⌝ }
-    ensures { λ r. ⌜ r ≡ shownAt (patchIn (now (coordinates .entry)) count (now (table .entry)) n) i ⌝ }
+    ensures { λ r. ⌜ r ≡ getD (shownOf (patchIn (now (coordinates .entry)) count (now (table .entry)) n)) i plusZero ⌝ }
 {
     if n <= i {
         return 0.0;
     }
-    let quality = tally::row_quality(coordinates, count, mesh::row_in(table, i));
-    let shown = quality.shown();
+    let quality = tally::row_quality(coordinates, count, rows::row_in(table, i));
+    let shown = Shown::of(quality);
     shown.signed()
 }
 
@@ -41,7 +46,7 @@ pub fn shown(block: &[u8], out: &mut [f64]) -> Answer
     ensures elements { λ r. ⌜ now (out .exit) ≡ shownElements (now (block .entry)) (now (out .entry)) ⌝ }
 {
     if out.len() != MAX_ROWS {
-        return Answer::Refused(1);
+        return Answer::Refused(answers::LENGTH);
     }
     let answer = block::opening(block);
     let Answer::Done = answer else {
@@ -55,4 +60,15 @@ pub fn shown(block: &[u8], out: &mut [f64]) -> Answer
         out,
     );
     answer
+}
+
+// The page row: the worst row before and after.
+pub fn page_row(coordinates: &[u8], count: usize, table: &[u8], n: usize, rows: Rows) -> PageRow
+    requires { ⌜ Measured (now coordinates) count (now table) n × Measured (now coordinates) count (rows .table) (rows .n) ⌝ }
+    ensures { λ r. ⌜ r ≡ pageRow (shown (worstOfPatch (patchIn (now (coordinates .entry)) count (now (table .entry)) n)))
+        (shown (worstOfPatch (patchIn (now (coordinates .entry)) count (rows .table) (rows .n)))) ⌝ }
+{
+    let before = tally::worst_row(coordinates, count, table, n);
+    let after = tally::worst_row(coordinates, count, &rows.table, rows.n);
+    PageRow::of(Shown::of(before), Shown::of(after))
 }

@@ -1,4 +1,3 @@
-pub mod Steps
-pub mod Cross
-pub mod Laws
-pub mod Rounded
+pub mod WholeParts
+pub mod CrossProducts
+pub mod RoundedUp

@@ -6,21 +6,22 @@ use lib.Dec.{T, eqb}
 use lib.IntN.{pos}
 use lib.ListN.{length, take, drop, replicate}
 use Rattle.lists.specs.Lists.{every, same}
-use Rattle.measure.specs.declared.Point.{Point}
-use Rattle.measure.specs.declared.Octave.{Octave}
-use Rattle.measure.specs.declared.Octave.the-variants.{Exponent, NoUpright}
-use Rattle.measure.specs.Measure.{sameZ}
-use Rattle.measure.specs.Marks.{scoreOf, badness, added, totalBadness, octave}
-use Rattle.mesh.specs.declared.Row.{Row}
-use Rattle.mesh.specs.Mesh.{rowD, rowS}
-use Rattle.block.specs.Layout.{Patch, blockBytes, bodyBytes, fieldsOf, bytesOf}
+use Rattle.volume.specs.declared.Point.{Point}
+use Rattle.score.specs.declared.Octave.{Octave}
+use Rattle.score.specs.declared.Octave.the-variants.{Exponent, NoUpright}
+use Rattle.volume.specs.Volume.{sameZ}
+use Rattle.score.specs.Score.{scoreOf, badness, added, totalBadness, octave}
+use Rattle.rows.specs.declared.Row.{Row}
+use Rattle.rows.specs.RowMeasure.{rowD, rowS}
+use Rattle.layout.specs.Layout.{Patch, blockBytes, bodyBytes, fieldsOf, bytesOf}
 use Rattle.ring.specs.Ring.{siteOf}
-use Rattle.pieces.specs.Triangulation.{Tri, side, cut, ways, newRows}
-use Rattle.tally.specs.Summing.{qualities}
-use Rattle.patch.specs.Removing.{worstNow, removeAnswer, removeBytes}
-use Rattle.patch.specs.Flipping.{flip32Answer, flip23Bytes}
-use Rattle.printout.specs.Printout.{text, printout}
-use Rattle.facts.specs.Open.{definitions}
+use Rattle.triangulation.specs.Triangulation.{Tri, side, cut, ways, newRows}
+use Rattle.tally.specs.Tally.{qualities}
+use Rattle.calls.specs.Removing.{worstNow, removeAnswer, removeBytes}
+use Rattle.calls.specs.Flipping.{flip32Answer, flip23Bytes}
+use Rattle.lines.specs.Lines.{text}
+use Rattle.printout.specs.Printout.{printout}
+use Rattle.facts.specs.AllDefinitions.{definitions}
 
 -- ---- the patches
 

@@ -1,4 +1,2 @@
-pub mod Open
+pub mod AllDefinitions
 pub mod Facts
-pub mod Room
-pub mod Chains

@@ -6,16 +6,18 @@ use mathlib.Core.List.{[], _∷_, _++_, append-assoc}
 use mathlib.Core.Path.{_≡_, refl, ap, _∙_}
 use borrow.Author.Tests.{le-leb}
 use lib.Dec.{T, leb, lit≤}
-use Rattle.measure.specs.Measure.{maxCoordinate}
-use Rattle.block.specs.Layout.{Patch, fieldsOf, bytesOf}
-use Rattle.block.specs.Within.{Kept}
-use Rattle.block.specs.Answers.{Tests, firstRefusal, notBlock}
-use Rattle.block.proofs.Refusals.{goes-on}
-use Rattle.block.proofs.Trip.{read-written, opens-written}
+use Rattle.volume.specs.Volume.{maxCoordinate}
+use Rattle.layout.specs.Layout.{Patch, fieldsOf, bytesOf}
+use Rattle.block.specs.Holding.{Holdable}
+use Rattle.answers.specs.Answers.{Tests, firstRefusal}
+use Rattle.block.specs.Opening.{notBlock}
+use Rattle.answers.proofs.Refusals.{goes-on}
+use Rattle.layout.proofs.PatchWritten.{read-written}
+use Rattle.block.proofs.RoundTrip.{opens-written}
 use Rattle.ring.specs.Ring.{siteOf, orChains, edgeTests}
-use Rattle.patch.specs.Removing.{blockTests, removalTests, removeAnswer}
-use Rattle.patch.proofs.Answering.{block-opened}
-use Rattle.facts.specs.Open.{definitions}
+use Rattle.calls.specs.Removing.{blockTests, removalTests, removeAnswer}
+use Rattle.calls.proofs.CallTests.{block-opened}
+use Rattle.facts.specs.AllDefinitions.{definitions}
 use Rattle.facts.specs.Facts.{row, answer, blank, blockAWith}
 use Rattle.instances.specs.SixthPoint.{sixthAt, AnyPlace}
 
@@ -24,7 +26,7 @@ abbrev behind8 : Patch → ℕ → ℕ → Tests
 behind8 patch e f = let site = siteOf patch e f in edgeTests orChains site e f ++ removalTests patch site
 
 -- the answer of a patch that a block may hold
-answer-of : (patch : Patch) → Kept patch → (e f : ℕ) → answer patch e f ≡ firstRefusal (behind8 patch e f)
+answer-of : (patch : Patch) → Holdable patch → (e f : ℕ) → answer patch e f ≡ firstRefusal (behind8 patch e f)
 unfolding removeAnswer
 answer-of patch kept e f =
     let block = bytesOf patch in
@@ -39,7 +41,7 @@ answer-of patch kept e f =
 
 -- a block may hold it, with and without the row of fact 8
 kept-at : (x y z : ℕ) → x ≤ maxCoordinate → y ≤ maxCoordinate → z ≤ maxCoordinate
-    → Kept (sixthAt x y z []) × Kept (sixthAt x y z (row 5 2 3 4 ∷ []))
+    → Holdable (sixthAt x y z []) × Holdable (sixthAt x y z (row 5 2 3 4 ∷ []))
 unfolding blockAWith definitions
 kept-at x y z hx hy hz =
     let placed : T (leb x maxCoordinate && (leb y maxCoordinate && (leb z maxCoordinate && true))) =

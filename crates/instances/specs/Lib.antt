@@ -1,4 +1,5 @@
-pub mod Numbers
-pub mod Close
-pub mod Summaries
+pub mod Steps
+pub mod EachNumber
+pub mod CloseQualities
+pub mod RareSummaries
 pub mod SixthPoint

@@ -2,9 +2,9 @@
 use Prim.Native.Nat.{ℕ, _≤_}
 use mathlib.Core.List.{List, [], _∷_}
 use mathlib.Core.Path.{_≡_}
-use Rattle.measure.specs.Measure.{maxCoordinate}
-use Rattle.mesh.specs.declared.Row.{Row}
-use Rattle.block.specs.Layout.{Patch}
+use Rattle.volume.specs.Volume.{maxCoordinate}
+use Rattle.rows.specs.declared.Row.{Row}
+use Rattle.layout.specs.Layout.{Patch}
 use Rattle.facts.specs.Facts.{at, row, answer, blockAWith}
 
 -- block A with a sixth point at a place, and more rows

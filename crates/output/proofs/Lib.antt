@@ -1,3 +1,3 @@
-pub mod Tables
-pub mod Staying
-pub mod Written
+pub mod RowsThenZeros
+pub mod RowsThatStay
+pub mod BlockAfterwards

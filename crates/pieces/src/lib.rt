@@ -1,23 +1,25 @@
-// The best triangulation of a ring or a chain: the table of its pieces, filled from the smaller to the larger, and the new rows it
-// stands for.
-mod candidates;
-mod expanded;
-mod filled;
-mod gathered;
-
-pub use candidates::best_at;
-pub use candidates::cell_at;
-pub use expanded::expand;
-pub use filled::fill;
-use measure::Quality;
-use mesh::MOST_KEYS;
+// The table of pieces, filled: i downwards, j upwards, so that every smaller piece is there when a larger one asks for it.
+ghost use mathlib.Core.Path.{_≡_};
+ghost use Prim.Native.Nat.{_≤_};
+ghost use Rattle.ring.specs.Ring.{maxRing};
+ghost use Rattle.pieces.specs.Steps.{KeepsTable, barIf};
+ghost use Rattle.filling.specs.Steps.{Blank};
+ghost use Rattle.cells.specs.Steps.{cellAt};
+ghost use Rattle.kept_faces.specs.Steps.{Fillable};
+ghost use Rattle.triangulation.specs.Steps.{siteIn};
+use cells::CELLS;
+use cells::cell_at;
+use filling::Filling;
+use filling::fill_row;
+use kept_faces::Rim;
+use kept_faces::gather;
+use kept_faces::rim_met;
+use kept_faces::uses_across;
 use ring::MAX_RING;
-
-// The cells of a table: one for each pair of ring places.
-pub const CELLS: usize = MAX_RING * MAX_RING;
+use ring::Ring;
 
 // The ring with, for every piece (i,j), its best worst and its chosen apex, at one place of four flat arrays.
-// kinds: 0 for the mark of a piece without an admissible triangulation, or of a whole chain that a kept row shuts; 1 inverted, 2 flat,
+// kinds: 0 for the mark of a piece without an admissible triangulation, or of a whole chain that a kept row bars; 1 inverted, 2 flat,
 // 3 upright.
 pub struct Pieces {
     pub m: usize,
@@ -28,60 +30,68 @@ pub struct Pieces {
     pub apexes: [u8; CELLS],
 }
 
-// The points that new rows have: the ends, and v1 to vm from place 0 on.
-pub struct Rim {
-    pub a: u8,
-    pub b: u8,
-    pub v: [u8; MAX_RING],
+// The table with the mark for piece (1,m), the whole of a chain, where a kept row bars it.
+fn bar(filling: Filling, barred: bool, m: usize) -> Filling
+    requires { ⌜ (1 ≤ m) × (m ≤ maxRing) ⌝ }
+    ensures { λ r. ⌜ r ≡ barIf barred filling (cellAt 1 m) ⌝ }
+{
+    if !barred {
+        return filling;
+    }
+    let at = cell_at(1, m);
+    let mut next = filling;
+    next.kinds[at] = 0;
+    next.nums[at] = 0;
+    next.dens[at] = 0;
+    next.apexes[at] = 0;
+    next
 }
 
-// The best worst of a piece, or the mark.
-pub enum Best {
-    Mark,
-    Worst(Quality),
-}
-
-// The keys of the faces of kept rows that can matter: n of them.
-struct Kept {
+// The best worst and the apex of every piece of a ring, or of a chain.
+pub fn fill(
+    coordinates: &[u8],
+    count: usize,
+    table: &[u8],
     n: usize,
-    keys: [u32; MOST_KEYS],
-}
-
-// The two rows of a triangle x, y, z: (a,x,y,z) and (x,y,z,b).
-struct Bipyramid {
     a: u8,
-    x: u8,
-    y: u8,
-    z: u8,
     b: u8,
-}
-
-// A triangle's side: two neighbours of the ring, a diagonal with its piece's best worst, or a diagonal that cannot be taken.
-enum Side {
-    Neighbours,
-    Diagonal(Quality),
-    Closed,
-}
-
-// What the apexes looked at have given: the apex to take and the best worst with it.
-enum Choice {
-    Nothing,
-    Apex(u8, Quality),
-}
-
-// What one cell of the table keeps.
-struct Cell {
-    kind: u8,
-    num: u64,
-    den: u64,
-    apex: u8,
-}
-
-// The table while it is filled, and beside it whether a kept row uses a face of a or b with a piece's closing side.
-struct Filling {
-    kinds: [u8; CELLS],
-    nums: [u64; CELLS],
-    dens: [u64; CELLS],
-    apexes: [u8; CELLS],
-    used: [bool; CELLS],
+    closed: bool,
+    ring: Ring,
+) -> Pieces
+    requires { ⌜ Fillable (now coordinates) count (now table) n a b closed ring ⌝ }
+    ensures { λ r. ⌜ KeepsTable (siteIn (now (coordinates .entry)) count (now (table .entry)) n a b) r ⌝ }
+    ensures { λ r. ⌜ Blank (r .kinds) (r .nums) (r .dens) (r .apexes) (r .m) ⌝ }
+{
+    let m = ring.m as usize;
+    let v = ring.v;
+    let rim = Rim { a, b, v };
+    let met = rim_met(rim, m);
+    let kept = gather(table, n, a, b, &met);
+    let found = kept.n;
+    let mut filling = Filling {
+        kinds: [0; CELLS],
+        nums: [0; CELLS],
+        dens: [0; CELLS],
+        apexes: [0; CELLS],
+        used: [false; CELLS],
+    };
+    let mut i = m - 1;
+    while 1 < i {
+        i -= 1;
+        filling = fill_row(filling, coordinates, rim, &kept.keys, found, m, i);
+    }
+    let barred = uses_across(&kept.keys, found, closed, a, b, v[0], v[m - 1]);
+    let judged = bar(filling, barred, m);
+    let kinds = judged.kinds;
+    let nums = judged.nums;
+    let dens = judged.dens;
+    let apexes = judged.apexes;
+    Pieces {
+        m,
+        ring: v,
+        kinds,
+        nums,
+        dens,
+        apexes,
+    }
 }

@@ -9,18 +9,18 @@ use native.Mathlib.Decide.{decLe}
 use native.Mathlib.Omega.{arith}
 use lib.Dec.{T, leb, ltb, leb→le, le→leb, ltb→lt, lt→ltb, T-not, not-T}
 use Rattle.lists.specs.Lists.{any, those, count}
-use Rattle.pieces.specs.Triangulation.{Triangle}
+use Rattle.triangulation.specs.Triangulation.{Triangle}
 use Rattle.polygon.specs.Polygon.{Side, sides, overtakes, cross, sameTriangle, overlap, apart, within}
 use Rattle.lists.proofs.Tests.{and-l, and-r, and-i, or-l, or-r, or-e}
 use Rattle.lists.proofs.Places.{in-cases}
 use Rattle.lists.proofs.Lists.{any-i, any-e, none-passes, those-e}
 use Rattle.lists.proofs.Counts.{ind, ind-yes, count-cons}
-use Rattle.pieces.proofs.Triangulation.{Within}
-use Rattle.polygon.proofs.Alike.{same→, →same, same-self, nothing, some-in, is-in}
+use Rattle.triangulation.proofs.TreesTriangulate.{InPiece}
+use Rattle.polygon.proofs.SameTriangles.{same→, →same, same-self, nothing, some-in, is-in}
 
 -- ---- tests
 
-pub within→ : (i j : ℕ) (x : Triangle) → T (within i j x) → Within i j x
+pub within→ : (i j : ℕ) (x : Triangle) → T (within i j x) → InPiece i j x
 unfolding within
 within→ i j x h =
     let a : T (leb i (x .0)) = search (and-l, and-r) in
@@ -29,7 +29,7 @@ within→ i j x h =
     let d : T (leb (x .2) j) = search (and-l, and-r) in
     omega (arith, leb→le, ltb→lt)
 
-pub →within : (i j : ℕ) (x : Triangle) → Within i j x → T (within i j x)
+pub →within : (i j : ℕ) (x : Triangle) → InPiece i j x → T (within i j x)
 unfolding within
 →within i j x h = search (and-i, le→leb)
 
@@ -85,10 +85,10 @@ turned (over-first a b) = under-first a b
 turned (over-second a b) = under-second a b
 
 -- i < k < j
-abbrev pub Proper : Triangle → Type 0
-Proper x = (x .0 < x .1) × (x .1 < x .2)
+abbrev pub InOrder : Triangle → Type 0
+InOrder x = (x .0 < x .1) × (x .1 < x .2)
 
-pub not-itself : (x : Triangle) → Proper x → Apart x x → ⊥
+pub not-itself : (x : Triangle) → InOrder x → Apart x x → ⊥
 not-itself x g (before a) = omega arith
 not-itself x g (after a) = omega arith
 not-itself x g (under-first a b) = omega arith
@@ -118,7 +118,7 @@ unfolding sides
 long-of z = List·Memᴰ·tail (List·Memᴰ·tail (List·Memᴰ·head refl))
 
 -- triangles that do not overlap lie apart: in every other case some side crosses a side, or they are the same
-module _ (x y : Triangle) (gx : Proper x) (gy : Proper y) (free : T (not (overlap x y))) where
+module _ (x y : Triangle) (gx : InOrder x) (gy : InOrder y) (free : T (not (overlap x y))) where
   differ : T (sameTriangle x y) → ⊥
   unfolding overlap
   differ h = T-not (overlap x y) free (or-l (sameTriangle x y) _ h)
@@ -172,7 +172,7 @@ module _ (x y : Triangle) (gx : Proper x) (gy : Proper y) (free : T (not (overla
       (λ a. by-order (x .2) (y .0) before (λ b. by-order (x .0) (y .0) (λ c. begins-inside c b) (λ c. begins-before c a)))
 
 -- a side stays between the first and the last corner
-spread : (z : Triangle) → Proper z → {d : Side} → List·Memᴰ d (sides z) → (z .0 ≤ d .0) × (d .0 < d .1) × (d .1 ≤ z .2)
+spread : (z : Triangle) → InOrder z → {d : Side} → List·Memᴰ d (sides z) → (z .0 ≤ d .0) × (d .0 < d .1) × (d .1 ≤ z .2)
 unfolding sides
 spread z g m =
     in-cases m (λ e. rw e (omega arith))
@@ -202,7 +202,7 @@ swap d e h = go (cross→ d e h)
     go (inr k) = →cross e d k
 
 -- what lies behind a short side of a triangle crosses no side of it
-behind : (z : Triangle) → Proper z → {d : Side} → List·Memᴰ d (sides z) → (e : Side) → e .0 < e .1
+behind : (z : Triangle) → InOrder z → {d : Side} → List·Memᴰ d (sides z) → (e : Side) → e .0 < e .1
     → ((z .0 ≤ e .0) × (e .1 ≤ z .1)) ⊎ ((z .1 ≤ e .0) × (e .1 ≤ z .2)) → T (cross d e) → ⊥
 unfolding sides
 behind z g {d} m e f (inl a) h =
@@ -215,7 +215,7 @@ behind z g {d} m e f (inr a) h =
     (λ m. in-cases m (λ q. inside d e (rw q (omega arith)) (rw q (omega arith)) h) (λ m. absurd (List·Memᴰ·not-nil m))))
 
 -- triangles that lie apart do not overlap
-module _ (x y : Triangle) (gx : Proper x) (gy : Proper y) where
+module _ (x y : Triangle) (gx : InOrder x) (gy : InOrder y) where
   not-crossed : Apart x y → {d e : Side} → List·Memᴰ d (sides x) → List·Memᴰ e (sides y) → T (cross d e) → ⊥
   not-crossed c {d} {e} m n h = go c (spread x gx m) (spread y gy n)
     where
@@ -248,7 +248,7 @@ abbrev pub Parted : List Triangle → Type 0
 Parted [] = Unit {0}
 Parted (x ∷ xs) = ((y : Triangle) → List·Memᴰ y xs → Apart x y) × Parted xs
 
-pub apart→ : (xs : List Triangle) → ((x : Triangle) → List·Memᴰ x xs → Proper x) → T (apart xs) → Parted xs
+pub apart→ : (xs : List Triangle) → ((x : Triangle) → List·Memᴰ x xs → InOrder x) → T (apart xs) → Parted xs
 unfolding apart
 apart→ [] g h = tt
 apart→ (x ∷ xs) g h = (
@@ -257,7 +257,7 @@ apart→ (x ∷ xs) g h = (
   apart→ xs (λ y m. g y (List·Memᴰ·tail m)) (and-r (not (any (overlap x) xs)) (apart xs) h),
 )
 
-pub →apart : (xs : List Triangle) → ((x : Triangle) → List·Memᴰ x xs → Proper x) → Parted xs → T (apart xs)
+pub →apart : (xs : List Triangle) → ((x : Triangle) → List·Memᴰ x xs → InOrder x) → Parted xs → T (apart xs)
 unfolding apart
 →apart [] g h = tt
 →apart (x ∷ xs) g h =
@@ -309,7 +309,7 @@ at-most-one p (x ∷ xs) h f =
     go false e k = omega arith
 
 -- triangles that lie apart are different
-pub distinct : (xs : List Triangle) → ((x : Triangle) → List·Memᴰ x xs → Proper x) → Parted xs
+pub distinct : (xs : List Triangle) → ((x : Triangle) → List·Memᴰ x xs → InOrder x) → Parted xs
     → (x : Triangle) → count (sameTriangle x) xs ≤ 1
 distinct xs g h x =
     at-most-one (sameTriangle x) xs h

@@ -1,8 +1,8 @@
-pub mod Alike
+pub mod SameTriangles
 pub mod Apart
 pub mod Parting
-pub mod Polygon
-pub mod Cover
-pub mod Unique
-pub mod Once
-pub mod Counted
+pub mod CutsAreTrees
+pub mod Coverings
+pub mod OneTree
+pub mod NoTreeTwice
+pub mod HowManyWays

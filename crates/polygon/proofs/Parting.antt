@@ -9,27 +9,27 @@ use native.Mathlib.Omega.{arith}
 use lib.Dec.{T, T-not}
 use lib.ListN.{length}
 use Rattle.lists.specs.Lists.{those, count}
-use Rattle.pieces.specs.Triangulation.{Tri, side, cut, Triangle, triangles}
+use Rattle.triangulation.specs.Triangulation.{Tri, side, cut, Triangle, triangles}
 use Rattle.polygon.specs.Polygon.{within}
 use Rattle.lists.proofs.Places.{in-cases}
 use Rattle.lists.proofs.Lists.{those-e, those-split}
 use Rattle.lists.proofs.Counts.{count-cons, count-append, count-split}
-use Rattle.pieces.proofs.Trees.{endOf, triangles-cut}
-use Rattle.pieces.proofs.Triangulation.{Within}
-use Rattle.polygon.proofs.Alike.{Same, three, nothing}
+use Rattle.triangulation.proofs.Trees.{endOf, triangles-cut}
+use Rattle.triangulation.proofs.TreesTriangulate.{InPiece}
+use Rattle.polygon.proofs.SameTriangles.{Same, three, nothing}
 use Rattle.polygon.proofs.Apart.{within→, →within, Apart, before, after, under-first, under-second, over-first, over-second}
-use Rattle.polygon.proofs.Apart.{Proper, not-itself, by-order, Parted, pair, parted-those}
+use Rattle.polygon.proofs.Apart.{InOrder, not-itself, by-order, Parted, pair, parted-those}
 
 -- each lies in the piece
 abbrev pub Inside : ℕ → ℕ → List Triangle → Type 0
-Inside i j ts = (x : Triangle) → List·Memᴰ x ts → Within i j x
+Inside i j ts = (x : Triangle) → List·Memᴰ x ts → InPiece i j x
 
 -- ---- the place that parts them
 
 -- where a triangle lies when the piece parts at k
 data Part (i k j : ℕ) (x : Triangle) : Type 0 where
-  lower : Within i k x → Part i k j x
-  upper : Within k j x → Part i k j x
+  lower : InPiece i k x → Part i k j x
+  upper : InPiece k j x → Part i k j x
   top : x ≡ (i, k, j) → Part i k j x
 
 record Parting (i j : ℕ) (ts : List Triangle) : Type 0 where
@@ -55,7 +55,7 @@ reach i j [] h g =
     record { far = suc i; over = omega arith; below = h; most = λ x m. absurd (List·Memᴰ·not-nil m); by = inl refl }
 reach i j (y ∷ ys) h g = go (reach i j ys h (λ x m. g x (List·Memᴰ·tail m))) (g y (List·Memᴰ·head refl))
   where
-    go : Reach i j ys → Within i j y → Reach i j (y ∷ ys)
+    go : Reach i j ys → InPiece i j y → Reach i j (y ∷ ys)
     go r w =
         by-order (y .0) i
         (λ a. by-order (y .2) (r .far) (λ b. keep (λ e. b))
@@ -89,7 +89,7 @@ module _ (i j : ℕ) (ts : List Triangle) (inside : Inside i j ts) (parted : Par
       let w = inside x m in
       record { at = x .1; over = omega arith; below = omega arith; parts = λ y n. go y (inside y n) (pair ts parted m n) }
     where
-      go : (y : Triangle) → Within i j y → (x ≡ y) ⊎ Apart x y → Part i (x .1) j y
+      go : (y : Triangle) → InPiece i j y → (x ≡ y) ⊎ Apart x y → Part i (x .1) j y
       go y w (inl e) = top (sym e ∙ three x i (x .1) j a refl c)
       go y w (inr (before u)) = absurd (omega arith)
       go y w (inr (after u)) = absurd (omega arith)
@@ -102,7 +102,7 @@ module _ (i j : ℕ) (ts : List Triangle) (inside : Inside i j ts) (parted : Par
   by-reach : (r : Reach i j ts) → r .far < j → Parting i j ts
   by-reach r h = record { at = r .far; over = r .over; below = h; parts = λ y n. go y n (inside y n) }
     where
-      under : (x y : Triangle) → Within i j x → Within i j y → x .0 ≡ i → x .2 ≡ r .far → i < y .0 → y .0 < r .far
+      under : (x y : Triangle) → InPiece i j x → InPiece i j y → x .0 ≡ i → x .2 ≡ r .far → i < y .0 → y .0 < r .far
           → (x ≡ y) ⊎ Apart x y → Part i (r .far) j y
       under x y u w a c f g (inl e) = absurd (omega (arith, ap (λ z. z .0) e))
       under x y u w a c f g (inr (before p)) = absurd (omega arith)
@@ -112,11 +112,11 @@ module _ (i j : ℕ) (ts : List Triangle) (inside : Inside i j ts) (parted : Par
       under x y u w a c f g (inr (over-first p q)) = absurd (omega arith)
       under x y u w a c f g (inr (over-second p q)) = absurd (omega arith)
 
-      between : (y : Triangle) → List·Memᴰ y ts → Within i j y → i < y .0 → y .0 < r .far → Reached i ts (r .far) → Part i (r .far) j y
+      between : (y : Triangle) → List·Memᴰ y ts → InPiece i j y → i < y .0 → y .0 < r .far → Reached i ts (r .far) → Part i (r .far) j y
       between y n w f g (inl e) = absurd (omega arith)
       between y n w f g (inr s) = under (s .0) y (inside (s .0) (s .1)) w (s .2) (s .3) f g (pair ts parted (s .1) n)
 
-      go : (y : Triangle) → List·Memᴰ y ts → Within i j y → Part i (r .far) j y
+      go : (y : Triangle) → List·Memᴰ y ts → InPiece i j y → Part i (r .far) j y
       go y n w =
           by-order (y .0) i (λ a. lower (omega (arith, r .most y n (omega arith))))
           (λ a. by-order (r .far) (y .0) (λ b. upper (omega arith)) (λ b. between y n w a b (r .by)))
@@ -138,7 +138,7 @@ pub record Filled (i j : ℕ) (ts : List Triangle) : Type 0 where
   pub tree : length ts + suc i ≡ j → (t : Tri) × (endOf i t ≡ j) × Same ts (triangles i t)
 
 -- no triangle lies apart from itself, so a list of one triangle only has none or one
-alone : (x : Triangle) → Proper x → (xs : List Triangle) → ((y : Triangle) → List·Memᴰ y xs → y ≡ x) → Parted xs
+alone : (x : Triangle) → InOrder x → (xs : List Triangle) → ((y : Triangle) → List·Memᴰ y xs → y ≡ x) → Parted xs
     → (xs ≡ []) ⊎ (xs ≡ x ∷ [])
 alone x g [] f h = inl refl
 alone x g (y ∷ []) f h = inr (ap (λ z. z ∷ []) (f y (List·Memᴰ·head refl)))

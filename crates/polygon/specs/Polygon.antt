@@ -8,7 +8,7 @@ use mathlib.Core.Path.{_≡_}
 use lib.Dec.{T, leb, ltb, eqb}
 use lib.ListN.{length}
 use Rattle.lists.specs.Lists.{every, any, count}
-use Rattle.pieces.specs.Triangulation.{Triangle}
+use Rattle.triangulation.specs.Triangulation.{Triangle}
 
 -- ---- triangles that do not overlap
 

@@ -1,7 +1,4 @@
-pub mod Decimal
-pub mod Printing
-pub mod Putting
-pub mod Done
-pub mod Sizes
-pub mod Short
-pub mod Printed
+pub mod PrintoutByAnswer
+pub mod ReadOffTheCalls
+pub mod PrintoutFits
+pub mod WaysOutOfPrint

@@ -1,3 +1,1 @@
 pub mod Printout
-pub mod Texts
-pub mod Reports

@@ -1,94 +1,21 @@
--- Requirement §6: links, the ring and the open chain; and §9, answers 9 to 13 and 19.
-use Prim.Native.Nat.{ℕ, zero, suc, _-_, min, max}
+-- Requirement §6: the ring and the open chain; and §9, answers 9 to 13 and 19.
+use Prim.Native.Nat.{ℕ, _-_, min, max}
 use mathlib.Core.Bool.{Bool, true, false, cond, not, _&&_, _||_}
-use mathlib.Core.List.{List, [], _∷_, map, foldr}
-use mathlib.Core.Option.{Option, none, some, Option·getD}
+use mathlib.Core.List.{List, [], _∷_, _++_, map}
 use lib.Dec.{eqb, ltb}
 use lib.IntN.{pos}
 use lib.ListN.{length, getD}
 use Rattle.lists.specs.Lists.{every, those, has, different}
-use Rattle.measure.specs.declared.Point.{Point}
-use Rattle.measure.specs.Measure.{D, sameZ}
-use Rattle.mesh.specs.declared.Row.{Row}
-use Rattle.mesh.specs.Mesh.{holdsEdge, place}
-use Rattle.mesh.specs.Tetrahedra.{arrangedFrom}
-use Rattle.block.specs.Layout.{Patch, filled}
-use Rattle.block.specs.Answers.{Tests}
+use Rattle.volume.specs.declared.Point.{Point}
+use Rattle.volume.specs.Volume.{D, sameZ}
+use Rattle.rows.specs.declared.Row.{Row}
+use Rattle.rows.specs.Rows.{holdsEdge}
+use Rattle.rows.specs.RowMeasure.{place}
+use Rattle.layout.specs.Layout.{Patch, filled}
+use Rattle.answers.specs.Answers.{Tests}
+use Rattle.links.specs.Links.{Link, link, starts}
+use Rattle.walk.specs.Walk.{allClose, circleOf, chainOf}
 use Rattle.ring.specs.declared.Ring.{Ring}
-
--- ---- links
-
--- A link v to w.
-abbrev pub Link : Type 0
-Link = ℕ × ℕ
-
--- each row holding both is rearranged evenly as (a,b,v,w) and gives a link v to w
-unfoldable pub link : ℕ → ℕ → Row → Link
-link a b row = let t = arrangedFrom a b row in (t .r, t .s)
-
--- where the link from v goes to, if there is one
-unfoldable pub next : List Link → ℕ → Option ℕ
-next [] v = none
-next (l ∷ ls) v = let rest = next ls v in cond (eqb (l .0) v) (some (l .1)) rest
-
--- the points from which links go
-abbrev pub starts : List Link → List ℕ
-starts links = map (λ l. l .0) links
-
--- the points to which links go
-abbrev pub ends : List Link → List ℕ
-ends links = map (λ l. l .1) links
-
--- ---- circles
-
--- the walk round the edge, at most so many steps of it: it ends at the first missing link, with nothing,
--- or when it is back at its start, with the points of a closed circle
-unfoldable pub walk : ℕ → List Link → ℕ → ℕ → Option (List ℕ)
-walk zero links start here = none
-walk (suc steps) links start here = elim (next links here) [
-  | none ↦ none
-  | some there ↦ elim (eqb there start) [
-    | true ↦ some (here ∷ [])
-    | false ↦ elim (walk steps links start there) [ none ↦ none | some others ↦ some (here ∷ others) ]
-  ]
-]
-
--- the closed circle from v, if there is one; it has no more points than there are links
-abbrev pub circle : List Link → ℕ → Option (List ℕ)
-circle links v = walk (length links) links v v
-
--- the walk from v closes
-abbrev pub closes : List Link → ℕ → Bool
-closes links v = elim (circle links v) [ none ↦ false | some points ↦ true ]
-
--- the links all close
-unfoldable pub allClose : List Link → Bool
-allClose links = every (closes links) (starts links)
-
--- the smallest of some numbers
-unfoldable pub smallest : List ℕ → ℕ
-smallest [] = 0
-smallest (n ∷ ns) = foldr min n ns
-
--- the ring starts at its smallest point number, v1, and follows the links to vm
-unfoldable pub circleOf : List Link → List ℕ
-circleOf links = Option·getD (circle links (smallest (starts links))) []
-
--- ---- chains
-
--- the points from which a link goes and to which none comes
-unfoldable pub heads : List Link → List ℕ
-heads links = those (λ v. not (has (ends links) v)) (starts links)
-
--- the points along the links from here on, at most so many steps of it, up to the first from which no link goes
-unfoldable pub follow : ℕ → List Link → ℕ → List ℕ
-follow zero links here = here ∷ []
-follow (suc steps) links here = elim (next links here) [ none ↦ here ∷ [] | some there ↦ here ∷ follow steps links there ]
-
--- the chain keeps its own start and end: v1 is the point that no link enters, also when it is not the smallest, and the links lead
--- to vm; of several such points it is the smallest, and then the links make no single chain
-unfoldable pub chainOf : List Link → List ℕ
-chainOf links = follow (length links) links (smallest (heads links))
 
 -- ---- the edge in its patch
 
@@ -192,6 +119,10 @@ edgeTests chains site e f = (9, numbersWrong (length (site .points)) (e ∷ f �
 -- 13 of a removal
 abbrev pub lengthTests : Site → Tests
 lengthTests site = (13, lengthWrong site) ∷ []
+
+-- 10 to 13, tested from the top, by what the call takes
+unfoldable pub ringTests : Bool → Site → Tests
+ringTests chains site = roundTests chains site ++ lengthTests site
 
 -- ---- the ring as a type
 

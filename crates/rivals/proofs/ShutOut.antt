@@ -8,34 +8,36 @@ use native.Mathlib.Omega.{arith}
 use lib.Dec.{T, T-not}
 use lib.ListN.{length}
 use Rattle.lists.specs.Lists.{those}
-use Rattle.measure.specs.Measure.{worst, worse, zeroQuality}
-use Rattle.mesh.specs.declared.Row.{Row}
-use Rattle.mesh.specs.Mesh.{rowQuality, holdsEdge}
-use Rattle.block.specs.Layout.{maxRows, fieldsOf, bytesOf}
-use Rattle.block.proofs.Right.{right-block}
+use Rattle.quality.specs.Quality.{worst, worse, zeroQuality}
+use Rattle.rows.specs.declared.Row.{Row}
+use Rattle.rows.specs.RowMeasure.{rowQuality}
+use Rattle.rows.specs.Rows.{holdsEdge}
+use Rattle.layout.specs.Layout.{maxRows, fieldsOf, bytesOf}
+use Rattle.block.proofs.RightBlocks.{right-block}
 use Rattle.ring.specs.Ring.{Site, siteOf}
-use Rattle.pieces.specs.Triangulation.{Tri, Triangle, triangles, newRows, tableAfter}
-use Rattle.pieces.specs.Best.{worstOfWay, chosen}
-use Rattle.patch.specs.declared.Summarised.{Summarised}
-use Rattle.patch.specs.declared.Summarised.the-variants.{Summary as Summed, Refused as NoSummary}
-use Rattle.patch.specs.Removing.{removeAnswer, removeGives, removalNumber}
+use Rattle.triangulation.specs.Triangulation.{Tri, Triangle, triangles, newRows, tableAfter}
+use Rattle.triangulation.specs.Best.{worstOfWay, chosen}
+use Rattle.calls.specs.declared.Summarised.{Summarised}
+use Rattle.calls.specs.declared.Summarised.the-variants.{Summary as Summed, Refused as NoSummary}
+use Rattle.calls.specs.Removing.{removeAnswer, removeGives, removalNumber}
 use Rattle.demands.specs.Kernels.{removes}
-use Rattle.demands.specs.Ways.{rowsOf, tableBy, worstBy, NoneBetter}
-use Rattle.demands.specs.Rounds.{edgeAt}
+use Rattle.demands.specs.TriangleSets.{rowsOf, tableBy, worstBy, NoneBetter}
+use Rattle.demands.specs.Premises.{edgeAt}
 use Rattle.demands.specs.Demands.{Best, Demand2, Demand3}
-use Rattle.demands.proofs.First.{remove-number, numbered}
-use Rattle.demands.proofs.Ways.{tree-way, tree-table, tree-worst}
-use Rattle.demands.proofs.Written.{rows-read}
-use Rattle.demands.proofs.Sited.{sited}
-use Rattle.demands.proofs.Third.{demand-3}
+use Rattle.accepted.proofs.CallsNumbered.{remove-number}
+use Rattle.demands.proofs.Demand1.{numbered}
+use Rattle.demands.proofs.WaysAndTrees.{tree-way, tree-table, tree-worst}
+use Rattle.accepted.proofs.AcceptedBytes.{rows-read}
+use Rattle.demands.proofs.EdgeFound.{sited}
+use Rattle.demands.proofs.Demand3.{demand-3}
 use Rattle.facts.specs.Facts.{blank, blockA, octahedron}
-use Rattle.facts.specs.Chains.{plate}
+use Rattle.plate.specs.Plate.{plate}
 use Rattle.rivals.specs.Useless.{refusing, fixing, copying, inventing}
 use Rattle.rivals.specs.Useless.{fanning, fanFirst, fanLast, fanned, givenBy, answered, six, sixBest}
-use Rattle.rivals.proofs.Blocks.{opens-A, done-A, points-A, rows-A, left-A, upright-A, premises-A}
-use Rattle.rivals.proofs.Blocks.{opens-octahedron, upright-octahedron, done-plate, points-plate}
-use Rattle.rivals.proofs.Blocks.{sixSite, premises-six, two-six, best-six, alone-six, opens-six, done-six}
-use Rattle.rivals.proofs.Blocks.{first-room, first-worse, last-room, last-worse}
+use Rattle.rivals.proofs.RivalBlocks.{opens-A, done-A, points-A, rows-A, left-A, upright-A, premises-A}
+use Rattle.rivals.proofs.RivalBlocks.{opens-octahedron, upright-octahedron, done-plate, points-plate}
+use Rattle.rivals.proofs.RivalBlocks.{sixSite, premises-six, two-six, best-six, alone-six, opens-six, done-six}
+use Rattle.rivals.proofs.RivalBlocks.{first-room, first-worse, last-room, last-worse}
 
 -- ---- one that refuses all: demand 3
 

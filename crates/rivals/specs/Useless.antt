@@ -2,18 +2,20 @@
 use Prim.Native.Nat.{ℕ, zero, suc, _-_}
 use mathlib.Core.List.{List, [], _∷_}
 use mathlib.Core.Option.{none, some}
-use Rattle.measure.specs.Page.{shown, pageRow}
-use Rattle.block.specs.Layout.{Patch, fieldsOf, bytesOf}
-use Rattle.block.specs.Answers.{openAnswer, written}
+use Rattle.page.specs.Page.{shown, pageRow}
+use Rattle.layout.specs.Layout.{Patch, fieldsOf, bytesOf}
+use Rattle.block.specs.Opening.{openAnswer}
+use Rattle.answers.specs.Answers.{written}
 use Rattle.ring.specs.Ring.{Site, siteOf, m, ringWith}
-use Rattle.pieces.specs.Triangulation.{Tri, side, cut, tableAfter}
-use Rattle.pieces.specs.Best.{apex}
-use Rattle.tally.specs.Summing.{summaryOf, worstOfPatch}
-use Rattle.patch.specs.declared.Summarised.{Summarised}
-use Rattle.patch.specs.declared.Summarised.the-variants.{Summary as Summed, Refused as NoSummary}
-use Rattle.patch.specs.declared.Removal.the-variants.{Done, Refused}
-use Rattle.patch.specs.declared.Removed.{Removed}
-use Rattle.patch.specs.Removing.{removeAnswer, removeGives}
+use Rattle.triangulation.specs.Triangulation.{Tri, side, cut, tableAfter}
+use Rattle.triangulation.specs.Best.{apex}
+use Rattle.summary.specs.Summary.{summaryOf}
+use Rattle.tally.specs.Tally.{worstOfPatch}
+use Rattle.calls.specs.declared.Summarised.{Summarised}
+use Rattle.calls.specs.declared.Summarised.the-variants.{Summary as Summed, Refused as NoSummary}
+use Rattle.calls.specs.declared.Removal.the-variants.{Done, Refused}
+use Rattle.calls.specs.declared.Removed.{Removed}
+use Rattle.calls.specs.Removing.{removeAnswer, removeGives}
 use Rattle.demands.specs.Kernels.{Kernel, ours}
 use Rattle.facts.specs.Facts.{at, row}
 

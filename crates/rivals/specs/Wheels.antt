@@ -5,11 +5,11 @@ use mathlib.Core.List.{List, [], _∷_, _++_, map}
 use lib.Dec.{eqb}
 use lib.ListN.{take}
 use Rattle.lists.specs.Lists.{numbersFrom}
-use Rattle.measure.specs.declared.Point.{Point}
-use Rattle.block.specs.Layout.{Patch, fieldsOf}
+use Rattle.volume.specs.declared.Point.{Point}
+use Rattle.layout.specs.Layout.{Patch, fieldsOf}
 use Rattle.ring.specs.Ring.{siteOf, m, ringWith}
-use Rattle.patch.specs.declared.Removal.the-variants.{Refused}
-use Rattle.patch.specs.Removing.{removeGives, removeBytes}
+use Rattle.calls.specs.declared.Removal.the-variants.{Refused}
+use Rattle.calls.specs.Removing.{removeGives, removeBytes}
 use Rattle.demands.specs.Kernels.{Kernel}
 use Rattle.facts.specs.Facts.{at, row}
 use Rattle.rivals.specs.Useless.{withRemove}

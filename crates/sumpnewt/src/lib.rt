@@ -1,92 +1,12 @@
 // The C boundary: the public calls behind C names, each returning the number of its answer. include/sumpnewt.h is their header.
 // A slice is a pointer and a length there. Unless the number is 0 every output element stays as it came.
 ghost use mathlib.Core.Path.{_≡_};
-ghost use lib.ListN.{length};
-ghost use Rattle.block.specs.Answers.{openAnswer, sealAnswer, sealBytes};
-ghost use Rattle.display.specs.Showing.{shownAnswer, shownElements};
-ghost use Rattle.patch.specs.Removing.{removeAnswer, removeBytes};
-ghost use Rattle.patch.specs.Flipping.{flip32Answer, flip32Bytes, flip23Answer, flip23Bytes};
-ghost use Rattle.sumpnewt.specs.Boundary.{summaryNumbers, summaryElements, summaryAnswer, summaryOut, hasWorst, worstNumber, hasOctave, octaveNumber, pageNumbers, pageElements, pageAnswer, pageOut};
-use block::BLOCK_BYTES;
-use measure::Octave;
-use measure::PageRow;
-use measure::WorstScore;
-use patch::Removal;
-use patch::Summarised;
-use tally::Summary;
-
-// The elements of a summary and of a page row.
-const SUMMARY_ELEMENTS: usize = 7;
-
-const PAGE_ELEMENTS: usize = 2;
-
-// An output of another length than it must have.
-const WRONG_LENGTH: u32 = 1;
-
-// Whether there is a worst score.
-fn has_worst(worst: WorstScore) -> u64
-    ensures { λ r. ⌜ r ≡ hasWorst worst ⌝ }
-{
-    match worst {
-        WorstScore::Worst(_) => 1,
-        WorstScore::NoRows => 0,
-    }
-}
-
-// The worst score, 0 for the mark.
-fn worst_number(worst: WorstScore) -> u64
-    ensures { λ r. ⌜ r ≡ worstNumber worst ⌝ }
-{
-    match worst {
-        WorstScore::Worst(score) => score.value() as u64,
-        WorstScore::NoRows => 0,
-    }
-}
-
-// Whether there is an octave.
-fn has_octave(octave: Octave) -> u64
-    ensures { λ r. ⌜ r ≡ hasOctave octave ⌝ }
-{
-    match octave {
-        Octave::Exponent(_) => 1,
-        Octave::NoUpright => 0,
-    }
-}
-
-// The octave, 0 for the mark.
-fn octave_number(octave: Octave) -> u64
-    ensures { λ r. ⌜ r ≡ octaveNumber octave ⌝ }
-{
-    match octave {
-        Octave::Exponent(e) => e as u64,
-        Octave::NoUpright => 0,
-    }
-}
-
-// Writes a summary.
-fn put_summary(summary: Summary, out: &mut [u64])
-    requires { ⌜ length (now out) ≡ summaryElements ⌝ }
-    ensures { λ _. ⌜ now (out .exit) ≡ summaryNumbers summary ⌝ }
-{
-    let worst = summary.worst;
-    let octave = summary.octave;
-    out[0] = summary.upright as u64;
-    out[1] = summary.flat as u64;
-    out[2] = summary.inverted as u64;
-    out[3] = has_worst(worst);
-    out[4] = worst_number(worst);
-    out[5] = has_octave(octave);
-    out[6] = octave_number(octave);
-}
-
-// Writes a page row.
-fn put_page(page: PageRow, row: &mut [f64])
-    requires { ⌜ length (now row) ≡ pageElements ⌝ }
-    ensures { λ _. ⌜ now (row .exit) ≡ pageNumbers page ⌝ }
-{
-    row[0] = page.before;
-    row[1] = page.after;
-}
+ghost use Rattle.block.specs.Opening.{openAnswer, sealAnswer, sealBytes};
+ghost use Rattle.display.specs.Display.{shownAnswer, shownElements};
+ghost use Rattle.calls.specs.Removing.{removeAnswer, removeBytes};
+ghost use Rattle.calls.specs.Flipping.{flip32Answer, flip32Bytes, flip23Answer, flip23Bytes};
+ghost use Rattle.sumpnewt.specs.Boundary.{summaryAnswer, summaryOut, pageAnswer, pageOut};
+use layout::BLOCK_BYTES;
 
 // Opens a block.
 #[no_mangle]
@@ -114,17 +34,7 @@ pub extern "C" fn sumpnewt_summary(block: &[u8], out: &mut [u64]) -> u32
     ensures answer { λ r. ⌜ r ≡ summaryAnswer (now (block .entry)) (now (out .entry)) ⌝ }
     ensures elements { λ r. ⌜ now (out .exit) ≡ summaryOut (now (block .entry)) (now (out .entry)) ⌝ }
 {
-    if out.len() != SUMMARY_ELEMENTS {
-        return WRONG_LENGTH;
-    }
-    let summarised = patch::summary(block);
-    match summarised {
-        Summarised::Summary(summary) => {
-            put_summary(summary, out);
-            0
-        }
-        Summarised::Refused(number) => number as u32,
-    }
+    elements::store_summary(patch::summary(block), out) as u32
 }
 
 // Removes the edge between the points a and b.
@@ -144,19 +54,10 @@ pub extern "C" fn sumpnewt_page(block: &[u8], a: usize, b: usize, row: &mut [f64
     ensures answer { λ r. ⌜ r ≡ pageAnswer (now (block .entry)) (now (row .entry)) a b ⌝ }
     ensures elements { λ r. ⌜ now (row .exit) ≡ pageOut (now (block .entry)) (now (row .entry)) a b ⌝ }
 {
-    if row.len() != PAGE_ELEMENTS {
-        return WRONG_LENGTH;
-    }
     let mut out = [0u8; BLOCK_BYTES];
     let removed = patch::remove(block, a, b, &mut out);
     let removal = removed.removal;
-    match removal {
-        Removal::Done(page) => {
-            put_page(page, row);
-            0
-        }
-        Removal::Refused(number) => number as u32,
-    }
+    elements::store_page(removal, row) as u32
 }
 
 // Shows the quality of each row of a block: an element for each row, with its sign, and zeros behind them.

@@ -1,7 +1,6 @@
-pub mod Places
-pub mod Totals
-pub mod Worsts
-pub mod Bounds
-pub mod Tallies
-pub mod Opens
-pub mod Paging
+pub mod MeasuredRows
+pub mod TotalRowByRow
+pub mod WorstRowByRow
+pub mod RowsOnGrid
+pub mod OpensMeasured
+pub mod PageCanShow

@@ -1,3 +1,2 @@
-pub mod Summing
-pub mod Measured
-pub mod Kept
+pub mod Tally
+pub mod Steps

@@ -1,4 +1,1 @@
-pub mod Bytes
-pub mod Chains
-pub mod Counted
-pub mod Totals
+pub mod RecordsCounted

@@ -1,47 +1,15 @@
--- The table of counts: a cell for each call and answer.
-use Prim.Native.Nat.{ℕ, _+_, _*_, _/_, _%_, _^_}
-use mathlib.Core.Bool.{Bool, cond}
+-- What the program counts: whole records, each held to its own call.
+use Prim.Native.Nat.{ℕ}
+use mathlib.Core.Bool.{Bool}
 use mathlib.Core.List.{List, foldl}
 use mathlib.Core.Path.{_≡_}
-use lib.Dec.{T, eqb, leb}
-use lib.ListN.{length, getD, set, replicate}
-use Rattle.lists.specs.Lists.{every, sum}
-use Rattle.vectors.specs.declared.counts.Counts.{Counts}
-use Rattle.vectors.specs.declared.counts.Cell.{Cell}
-use Rattle.vectors.specs.Records.{recordBytes, callIn, answerIn}
-use Rattle.vectors.specs.Agreeing.{caseAgrees}
-
--- the calls, and the answers 0 to 19
-abbrev pub calls : ℕ
-calls = 6
-
-abbrev pub answers : ℕ
-answers = 20
-
--- no case of any call and answer
-abbrev pub noCases : Counts
-noCases = record { cases = replicate (calls * answers) 0; agreeing = replicate (calls * answers) 0 }
-
--- the cells with one more in one place
-abbrev pub withOne : List ℕ → ℕ → List ℕ
-withOne cells at = set cells at ((getD cells at 0 + 1) % 2 ^ 64)
-
--- what is counted of one call and answer
-abbrev pub cellAt : Counts → ℕ → Cell
-cellAt counts at =
-    record { call = at / answers; answer = at % answers; cases = getD (counts .cases) at 0; agreeing = getD (counts .agreeing) at 0 }
-
--- all cells together, in 64 bits
-abbrev pub totalOf : List ℕ → ℕ
-totalOf cells = sum cells % 2 ^ 64
-
--- one case more, and one that agrees if it does; a record of no call or no answer is none
-unfoldable pub counted : Counts → ℕ → ℕ → Bool → Counts
-counted counts call answer agrees =
-    let at = call * answers + answer in
-    let agreeing = cond agrees (withOne (counts .agreeing) at) (counts .agreeing) in
-    let next : Counts = record { cases = withOne (counts .cases) at; agreeing = agreeing } in
-    cond (leb calls call) counts (cond (leb answers answer) counts next)
+use lib.Dec.{T, eqb}
+use lib.ListN.{length}
+use Rattle.lists.specs.Lists.{every}
+use Rattle.records.specs.Records.{recordBytes, callIn, answerIn}
+use Rattle.agreement.specs.Agreement.{caseAgrees}
+use Rattle.counts.specs.declared.Counts.{Counts}
+use Rattle.counts.specs.CaseCounts.{noCases, counted}
 
 -- one record more: a case of its call and answer, which agrees if the call gives what is stored
 abbrev pub recordCounted : Counts → List ℕ → Counts

@@ -4,13 +4,16 @@ use mathlib.Core.List.{List}
 use mathlib.Core.Path.{_≡_, sym, _∙_}
 use native.Mathlib.Omega.{arith}
 use borrow.Author.Needs.{needs}
-use Rattle.block.specs.declared.Answer.{Answer}
-use Rattle.block.specs.declared.Answer.the-variants.{Done, Refused}
-use Rattle.block.specs.declared.Fields.{Fields}
+use Rattle.answers.specs.declared.Answer.{Answer}
+use Rattle.answers.specs.declared.Answer.the-variants.{Done, Refused}
+use Rattle.answers.specs.Answers.{answerOf}
+use Rattle.answers.proofs.Refusals.{answer-done, answer-refused}
+use Rattle.layout.specs.declared.Fields.{Fields}
+use Rattle.layout.specs.Layout.{openFields, noFields}
 use Rattle.block.specs.declared.Opened.{Opened}
-use Rattle.block.specs.Answers.{answerOf, openAnswer, openFields, noFields, openGives}
-use Rattle.block.proofs.Refusals.{answer-done, answer-refused, open-fields, open-none}
-use Rattle.block.proofs.Right.{right-block}
+use Rattle.block.specs.Opening.{openAnswer, openGives}
+use Rattle.block.proofs.OpenedAndSealed.{open-fields, open-none}
+use Rattle.block.proofs.RightBlocks.{right-block}
 use Rattle.block.proofs.open.Statement.{statement}
 use Rattle.block.proofs.open.Tie as tie
 

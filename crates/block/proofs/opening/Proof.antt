@@ -1,8 +1,8 @@
 -- The length and the sums are tested first; what is left is the answer to the body.
 use mathlib.Core.Path.{sym, ap, _∙_}
 use borrow.Author.Needs.{needs}
-use Rattle.block.specs.Answers.{answerOf}
-use Rattle.block.proofs.Answering.{open-1, open-2, open-body}
+use Rattle.answers.specs.Answers.{answerOf}
+use Rattle.block.proofs.AnswersDecided.{open-1, open-2, open-body}
 use Rattle.block.proofs.opening.Statement.{statement}
 use Rattle.block.proofs.opening.Tie as tie
 

@@ -6,12 +6,15 @@ use native.Mathlib.Omega.{arith}
 use borrow.Author.Needs.{needs}
 use lib.ListN.{length, take, drop}
 use lib.Seq.{take-at}
-use Rattle.block.specs.declared.Answer.{Answer}
-use Rattle.block.specs.declared.Answer.the-variants.{Done, Refused}
-use Rattle.block.specs.Layout.{blockBytes, bodyBytes, sealed}
-use Rattle.block.specs.Answers.{answerOf, sealAnswer, sealBytes}
-use Rattle.block.proofs.Refusals.{answer-done, answer-refused, seal-writes, seal-keeps}
-use Rattle.block.proofs.Answering.{answerTo, seal-1-body, seal-1-out, seal-body}
+use Rattle.answers.specs.declared.Answer.{Answer}
+use Rattle.answers.specs.declared.Answer.the-variants.{Done, Refused}
+use Rattle.answers.specs.Answers.{answerOf}
+use Rattle.answers.proofs.Refusals.{answer-done, answer-refused}
+use Rattle.layout.specs.Layout.{blockBytes, bodyBytes, sealed}
+use Rattle.body.proofs.BodyAnswers.{answerTo}
+use Rattle.block.specs.Opening.{sealAnswer, sealBytes}
+use Rattle.block.proofs.OpenedAndSealed.{seal-writes, seal-keeps}
+use Rattle.block.proofs.AnswersDecided.{seal-1-body, seal-1-out, seal-body}
 use Rattle.block.proofs.seal.Statement.{statement}
 use Rattle.block.proofs.seal.Tie as tie
 

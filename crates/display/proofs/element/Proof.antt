@@ -3,9 +3,9 @@ use mathlib.Core.Path.{sym}
 use native.Mathlib.Omega.{arith}
 use lib.Ieee.{ofBits}
 use borrow.Author.Needs.{needs}
-use Rattle.tally.proofs.Places.{measured-row}
-use Rattle.tally.proofs.Paging.{row-carries}
-use Rattle.display.proofs.Elements.{table-shown, table-zero}
+use Rattle.tally.proofs.MeasuredRows.{measured-row}
+use Rattle.tally.proofs.PageCanShow.{row-carries}
+use Rattle.display.proofs.ElementsInOrder.{table-shown, table-zero}
 use Rattle.display.proofs.element.Statement.{statement}
 use Rattle.display.proofs.element.Tie as tie
 
@@ -23,8 +23,8 @@ row-quality-requires c κs =
     let start = c .before .before .before .before in
     rw (c .row-in .ensures) (measured-row (start .pre) (start .args .i) (omega arith))
 
-shown-requires : tie.Need-shown-requires
-shown-requires c κs =
+of-requires : tie.Need-of-requires
+of-requires c κs =
     let start = c .before .before .before .before .before in
     let a = start .args in
     rw (c .row-quality .ensures) (row-carries (a .coordinates .now) (a .count) (a .table .now) (a .n) (start .pre) _)
@@ -40,7 +40,7 @@ returns-2 c =
     let left = row .before in
     let a = left .before .before .before .args in
     table-shown (a .coordinates .now) (a .count) (a .table .now) (a .n) (a .i) (left .if1 .left) _ _ _ _
-    (row .row-in .ensures) (measured .row-quality .ensures) (at-shown .shown .ensures) (c .signed .ensures)
+    (row .row-in .ensures) (measured .row-quality .ensures) (at-shown .of .ensures) (c .signed .ensures)
 
 pub element-spec : {M : Type 1} → statement M
 element-spec =
@@ -49,6 +49,6 @@ element-spec =
     returns
     row-in-requires
     row-quality-requires
-    shown-requires
+    of-requires
     signed-requires
     returns-2)

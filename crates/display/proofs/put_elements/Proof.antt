@@ -2,11 +2,12 @@
 use Prim.Native.Nat.{_≤_, _-_}
 use mathlib.Core.Path.{_≡_, refl, sym, ap, _∙_}
 use native.Mathlib.Omega.{arith}
-use lib.ListN.{length, set, length-set}
-use Rattle.mesh.proofs.Tables.{rows-length}
-use Rattle.block.specs.Layout.{maxRows}
-use Rattle.tally.specs.Measured.{patchIn}
-use Rattle.display.proofs.Elements.{upTo, one-more, all-written}
+use lib.ListN.{length, getD, set, length-set}
+use Rattle.rows.proofs.RowsOfTables.{rows-length}
+use Rattle.layout.specs.Layout.{maxRows}
+use Rattle.tally.specs.Tally.{patchIn}
+use Rattle.display.specs.Display.{plusZero, shownOf}
+use Rattle.display.proofs.ElementsInOrder.{upTo, one-more, all-written}
 use Rattle.display.proofs.put_elements.Statement.{statement}
 use Rattle.display.proofs.put_elements.Tie as tie
 
@@ -43,7 +44,7 @@ loop-again c =
     let patch = patchIn (a .coordinates .now) (a .count) (a .table .now) (a .n) in (
       omega arith,
       ap (λ elements. set elements (l .loop .i) (c .element .result)) (l .loop .inv .1)
-          ∙ (ap (set (upTo patch (a .out .now) (l .loop .i)) (l .loop .i)) (c .element .ensures)
+          ∙ (ap (set (upTo patch (a .out .now) (l .loop .i)) (l .loop .i)) {y = getD (shownOf patch) (l .loop .i) plusZero} (c .element .ensures)
           ∙ one-more patch (omega (arith, rows-length (a .table .now) (a .n))) (a .out .now) (start .pre .2) (l .loop .i) (omega arith)),
       simp length-set (l .loop .inv .2),
     )

@@ -3,10 +3,10 @@ use mathlib.Core.Path.{_≡_}
 use native.Mathlib.Omega.{arith}
 use borrow.Author.Needs.{needs}
 use lib.ListN.{length}
-use Rattle.block.specs.Layout.{blockBytes}
-use Rattle.block.specs.Answers.{openAnswer}
-use Rattle.tally.proofs.Opens.{block-size, few-rows, opens-measured}
-use Rattle.display.proofs.Showing.{other-length, not-opened, opens, elements-written}
+use Rattle.layout.specs.Layout.{blockBytes}
+use Rattle.block.specs.Opening.{openAnswer}
+use Rattle.tally.proofs.OpensMeasured.{block-size, few-rows, opens-measured}
+use Rattle.display.proofs.ShownRows.{other-length, not-opened, opens, elements-written}
 use Rattle.display.proofs.shown.Statement.{statement}
 use Rattle.display.proofs.shown.Tie as tie
 

@@ -6,7 +6,7 @@ use native.Mathlib.Omega.{arith}
 use borrow.Author.Tests.{lt-ltb, le-ltb}
 use borrow.Fn.Kinds.{In}
 use borrow.Fn.PlainCycle.{Measures, is, falls, and}
-use Rattle.exact.proofs.Steps.{none-over, over-all, below-one, other-part, turned-over, same-part}
+use Rattle.exact.proofs.WholeParts.{none-over, over-all, below-one, other-part, turned-over, same-part}
 use Rattle.exact.proofs.less.Reads as less
 use Rattle.exact.proofs.less.Kinds as less-kinds
 use Rattle.exact.proofs.+less.Lts-less as less-lts

@@ -8,8 +8,9 @@ use borrow.Author.Needs.{needs}
 use borrow.Author.Tests.{not-true, not-false}
 use Rattle.lists.specs.Lists.{every, numbersFrom}
 use Rattle.lists.proofs.Lists.{every-snoc, every-no}
-use Rattle.mesh.specs.Mesh.{rowIn, rowsIn, numbersFit}
-use Rattle.mesh.proofs.Tables.{rows-more, row-among}
+use Rattle.rows.specs.Rows.{rowIn, rowsIn}
+use Rattle.rows.proofs.RowsOfTables.{rows-more, row-among}
+use Rattle.mesh.specs.Mesh.{numbersFit}
 use Rattle.mesh.proofs.all_fit.Statement.{statement}
 use Rattle.mesh.proofs.all_fit.Tie as tie
 

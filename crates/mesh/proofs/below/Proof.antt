@@ -1,9 +1,9 @@
 -- `below` tests the four numbers one after the other, in the order of the definition.
-use borrow.Author.Tests.{lt-ltb, le-ltb}
 use mathlib.Core.Path.{sym}
+use borrow.Author.Tests.{lt-ltb, le-ltb}
+use borrow.Author.Needs.{needs}
 use Rattle.lists.specs.Lists.{every}
 use Rattle.lists.proofs.Tests.{and-true}
-use borrow.Author.Needs.{needs}
 use Rattle.mesh.proofs.below.Statement.{statement}
 use Rattle.mesh.proofs.below.Tie as tie
 

@@ -1,8 +1,8 @@
 -- `fits` joins the two tests of a row.
-use borrow.Author.Tests.{not-true, not-false}
 use mathlib.Core.Path.{sym, _∙_}
-use Rattle.mesh.specs.Mesh.{numbersFit}
+use borrow.Author.Tests.{not-true, not-false}
 use borrow.Author.Needs.{needs}
+use Rattle.mesh.specs.Mesh.{numbersFit}
 use Rattle.mesh.proofs.fits.Statement.{statement}
 use Rattle.mesh.proofs.fits.Tie as tie
 

@@ -1,7 +1,7 @@
 -- `unlike` tests the six pairs one after the other, in the order of the definition.
-use borrow.Author.Tests.{eq-eqb, ne-eqb}
 use mathlib.Core.Bool.{Bool, true, false, not, _&&_, _||_}
 use mathlib.Core.Path.{_≡_}
+use borrow.Author.Tests.{eq-eqb, ne-eqb}
 use lib.Dec.{eqb}
 use Rattle.lists.specs.Lists.{any, different}
 use Rattle.lists.proofs.Tests.{and-true, or-false}

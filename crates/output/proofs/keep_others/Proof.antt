@@ -6,9 +6,9 @@ use mathlib.Core.Path.{_≡_, refl, _∙_}
 use native.Mathlib.Omega.{arith}
 use borrow.Author.Needs.{needs}
 use Rattle.lists.specs.Lists.{those, numbersFrom}
-use Rattle.mesh.specs.Mesh.{rowsIn}
-use Rattle.output.proofs.Tables.{front-size}
-use Rattle.output.proofs.Staying.{Front, stays-more, goes-more}
+use Rattle.rows.specs.Rows.{rowsIn}
+use Rattle.output.proofs.RowsThenZeros.{front-size}
+use Rattle.output.proofs.RowsThatStay.{Front, stays-more, goes-more}
 use Rattle.output.proofs.keep_others.Statement.{statement}
 use Rattle.output.proofs.keep_others.Tie as tie
 

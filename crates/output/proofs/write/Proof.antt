@@ -3,7 +3,8 @@ use mathlib.Core.Path.{refl, _∙_}
 use native.Mathlib.Omega.{arith}
 use borrow.Author.Needs.{needs}
 use lib.ListN.{length-set}
-use Rattle.output.proofs.Written.{opened-size, block-afterwards}
+use Rattle.block.proofs.RightBlocks.{right-block}
+use Rattle.output.proofs.BlockAfterwards.{block-afterwards}
 use Rattle.output.proofs.write.Statement.{statement}
 use Rattle.output.proofs.write.Tie as tie
 
@@ -16,7 +17,7 @@ part-copy-start c = search needs
 part-copy-end : tie.Need-part-copy-end
 part-copy-end c =
     let start = c .before .before .before in
-    omega (arith, opened-size (start .args .block .now) (start .pre .opens))
+    omega (arith, right-block (start .args .block .now) (start .pre .opens) .size)
 
 copy-requires : tie.Need-copy-requires
 copy-requires c κs = search needs

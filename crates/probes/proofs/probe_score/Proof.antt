@@ -6,8 +6,8 @@ use Rattle.probes.proofs.probe_score.Tie as tie
 of-parts-requires : tie.Need-of-parts-requires
 of-parts-requires c κs = search needs
 
-score-requires : tie.Need-score-requires
-score-requires c κs = search needs
+of-requires : tie.Need-of-requires
+of-requires c κs = search needs
 
 value-requires : tie.Need-value-requires
 value-requires c κs = search needs
@@ -16,7 +16,7 @@ cast-result : tie.Need-cast-result
 cast-result c = search needs
 
 returns : tie.Need-returns
-returns c = rw (c .value .ensures, c .before .score .ensures, c .before .before .of-parts .ensures)
+returns c = rw (c .value .ensures, c .before .of .ensures, c .before .before .of-parts .ensures)
 
 pub probe-score-spec : {M : Type 1} → statement M
-probe-score-spec = tie.close (tie.spec of-parts-requires score-requires value-requires cast-result returns)
+probe-score-spec = tie.close (tie.spec of-parts-requires of-requires value-requires cast-result returns)

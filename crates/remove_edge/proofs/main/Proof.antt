@@ -1,7 +1,7 @@
 -- What is read is lent to `print`, and what it answers is lent to the write: a text has room for its whole printout.
 use mathlib.Core.Path.{sym}
 use lib.Seq.{length-take-le}
-use Rattle.printout.proofs.Putting.{text-lends}
+use Rattle.text.proofs.BytesBehindAText.{text-lends}
 use borrow.Author.Needs.{needs}
 use Rattle.remove_edge.proofs.main.Statement.{statement}
 use Rattle.remove_edge.proofs.main.Tie as tie

@@ -3,7 +3,7 @@ use mathlib.Core.Path.{_∙_}
 use native.Mathlib.Omega.{arith}
 use borrow.Author.Needs.{needs}
 use borrow.Author.Tests.{not-true, not-false}
-use Rattle.ring.proofs.Finding.{Gathered, Gone, gives-10, gives-12, gives-ring, gives-alone, gives-broken, gives-chain}
+use Rattle.ring.proofs.FoundByWalking.{Gathered, Gone, gives-10, gives-12, gives-ring, gives-alone, gives-broken, gives-chain}
 use Rattle.ring.proofs.find.Statement.{statement}
 use Rattle.ring.proofs.find.Tie as tie
 

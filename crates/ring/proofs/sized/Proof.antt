@@ -4,7 +4,7 @@ use borrow.Author.Needs.{needs}
 use borrow.Author.Tests.{lt-ltb, le-ltb}
 use lib.Seq.{length-take-le}
 use Rattle.ring.specs.Ring.{minRing, maxRing}
-use Rattle.ring.specs.Found.{sizedOf}
+use Rattle.ring.specs.Steps.{sizedOf}
 use Rattle.ring.proofs.sized.Statement.{statement}
 use Rattle.ring.proofs.sized.Tie as tie
 

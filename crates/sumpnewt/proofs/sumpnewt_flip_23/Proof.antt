@@ -1,6 +1,6 @@
 -- `sumpnewt_flip_23` hands on the number and the bytes of the call behind it.
 use borrow.Author.Needs.{needs}
-use Rattle.sumpnewt.proofs.Handed.{handed}
+use Rattle.sumpnewt.proofs.HandedToC.{handed}
 use Rattle.sumpnewt.proofs.sumpnewt_flip_23.Statement.{statement}
 use Rattle.sumpnewt.proofs.sumpnewt_flip_23.Tie as tie
 

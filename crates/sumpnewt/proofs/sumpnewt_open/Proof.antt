@@ -2,8 +2,8 @@
 use borrow.Author.Needs.{needs}
 use mathlib.Core.Path.{_∙_, ap}
 use Rattle.block.specs.declared.Opened.{Opened}
-use Rattle.block.specs.Answers.{numberOf}
-use Rattle.demands.proofs.First.{open-number}
+use Rattle.answers.specs.Answers.{numberOf}
+use Rattle.accepted.proofs.CallsNumbered.{open-number}
 use Rattle.sumpnewt.proofs.sumpnewt_open.Statement.{statement}
 use Rattle.sumpnewt.proofs.sumpnewt_open.Tie as tie
 

@@ -1,6 +1,6 @@
 -- `sumpnewt_remove` hands on the number and the bytes of the removal.
 use borrow.Author.Needs.{needs}
-use Rattle.sumpnewt.proofs.Handed.{removal-handed}
+use Rattle.sumpnewt.proofs.HandedToC.{removal-handed}
 use Rattle.sumpnewt.proofs.sumpnewt_remove.Statement.{statement}
 use Rattle.sumpnewt.proofs.sumpnewt_remove.Tie as tie
 

@@ -1,6 +1,6 @@
 -- `sumpnewt_seal` hands on the number and the bytes of the call behind it.
 use borrow.Author.Needs.{needs}
-use Rattle.sumpnewt.proofs.Handed.{handed}
+use Rattle.sumpnewt.proofs.HandedToC.{handed}
 use Rattle.sumpnewt.proofs.sumpnewt_seal.Statement.{statement}
 use Rattle.sumpnewt.proofs.sumpnewt_seal.Tie as tie
 

@@ -1,6 +1,6 @@
 -- `sumpnewt_shown` hands on the number and the elements of the call behind it.
 use borrow.Author.Needs.{needs}
-use Rattle.sumpnewt.proofs.Handed.{handed}
+use Rattle.sumpnewt.proofs.HandedToC.{handed}
 use Rattle.sumpnewt.proofs.sumpnewt_shown.Statement.{statement}
 use Rattle.sumpnewt.proofs.sumpnewt_shown.Tie as tie
 

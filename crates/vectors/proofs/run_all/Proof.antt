@@ -4,9 +4,9 @@ use mathlib.Core.Path.{_≡_, refl}
 use native.Mathlib.Omega.{arith}
 use borrow.Author.Needs.{needs}
 use lib.ListN.{length}
-use Rattle.vectors.specs.Records.{recordBytes}
+use Rattle.records.specs.Records.{recordBytes}
 use Rattle.vectors.specs.Counting.{Counted}
-use Rattle.vectors.proofs.Counted.{none-counted, one-counted}
+use Rattle.vectors.proofs.RecordsCounted.{none-counted, one-counted}
 use Rattle.vectors.proofs.run_all.Statement.{statement}
 use Rattle.vectors.proofs.run_all.Tie as tie
 

@@ -1,0 +1,96 @@
+-- What an accepted call leaves, for each call that writes, and how many rows there are then.
+use Prim.Native.Nat.{ℕ, _+_, _-_, _≤_, min, max}
+use mathlib.Core.Bool.{true, false, cond}
+use mathlib.Core.List.{List, [], _∷_}
+use mathlib.Core.Path.{_≡_, refl}
+use native.Mathlib.Omega.{arith}
+use borrow.Author.Tests.{ltb-false}
+use lib.ListN.{length}
+use Rattle.rows.specs.Rows.{holdsEdge, holdsFace}
+use Rattle.layout.specs.Layout.{maxRows, fieldsOf, bytesOf}
+use Rattle.block.proofs.RightBlocks.{right-block}
+use Rattle.layout.proofs.PatchWritten.{rows-counted}
+use Rattle.ring.specs.Ring.{Site, siteOf, m, minRing, notFlat}
+use Rattle.triangulation.specs.Triangulation.{newRows, tableAfter, rowsAfter}
+use Rattle.triangulation.specs.Admissible.{admissible}
+use Rattle.triangulation.specs.Best.{chosen}
+use Rattle.triangulation.proofs.WholeRing.{after-length, after-rows}
+use Rattle.calls.specs.Removing.{noWay, patchAfter, removeAnswer, removeBytes, Sound}
+use Rattle.calls.specs.Flipping.{flip32Answer, flip32Bytes, pairOf, threeRows, patchAfter23, flip23Answer, flip23Bytes}
+use Rattle.calls.proofs.CallTests.{Flips23, removes, flips-32, flips-23}
+use Rattle.calls.proofs.SoundEdges.{opens-rule, sound-site}
+use Rattle.tables.proofs.FacingRows.{Facing, face-apart, two-facing, flipped-total}
+use Rattle.tables.proofs.RingReplaced.{length-fits}
+use Rattle.accepted.specs.Accepted.{Accepted}
+use Rattle.accepted.proofs.AcceptedBytes.{accepted}
+use Rattle.accepted.proofs.ChosenWay.{site-total, some-way, site-chosen}
+
+module _ (block : List ℕ) (e f : ℕ) (sound : Sound block e f) where
+  abbrev site : Site
+  site = siteOf (fieldsOf block) e f
+
+  -- ---- the rows afterwards
+
+  -- the rows afterwards: as many as before, and m - 4, or for a chain m - 3
+  pub rows-after : 3 ≤ m site → rowsAfter site ≡ length (fieldsOf block .rows) + m site - cond (site .closed) 4 3
+  unfolding siteOf
+  rows-after three = after-rows site (fieldsOf block .rows) refl refl (sound-site block e f sound .size) three
+
+  -- a 3-2 flip always has room
+  room-32 : site .closed ≡ true → m site ≡ minRing → rowsAfter site ≤ maxRows
+  room-32 closed three =
+      omega (arith, rw closed at (rows-after (omega arith)), rows-counted block, right-block block (sound .opens) .body .few-rows)
+
+  -- ---- what is written, where some way keeps the mesh rule and there is room
+
+  site-accepted : notFlat site ≡ false → 3 ≤ m site → noWay site ≡ false → rowsAfter site ≤ maxRows
+      → Accepted block (bytesOf (patchAfter site)) (holdsEdge (min e f) (max e f)) (newRows site 1 (chosen site))
+  unfolding patchAfter siteOf tableAfter admissible
+  site-accepted flat three way room =
+      let (t, w) = some-way block e f sound three way in
+      let best = site-chosen block e f sound three t w in
+      let table = tableAfter site (chosen site) in
+      accepted block (sound .opens) table (omega (arith, after-length site (chosen site) (best .way .spans))) (best .way .keeps)
+      (holdsEdge (min e f) (max e f)) (newRows site 1 (chosen site)) refl (site-total block e f sound flat (chosen site) (best .way .spans))
+
+-- ---- the calls
+
+pub remove-accepted : (block out : List ℕ) (e f : ℕ) → removeAnswer block out e f ≡ 0
+    → let site = siteOf (fieldsOf block) e f in
+    Accepted block (removeBytes block out e f) (holdsEdge (min e f) (max e f)) (newRows site 1 (chosen site))
+unfolding removeBytes
+remove-accepted block out e f h =
+    let r = removes block out e f h in
+    let site = siteOf (fieldsOf block) e f in
+    rw h (site-accepted block e f (r .sound) (r .closed-or-flat) (length-fits site (r .length-right) .0) (r .way)
+    (ltb-false maxRows (rowsAfter site) (r .room)))
+
+pub flip32-accepted : (block out : List ℕ) (e f : ℕ) → flip32Answer block out e f ≡ 0
+    → let site = siteOf (fieldsOf block) e f in
+    Accepted block (flip32Bytes block out e f) (holdsEdge (min e f) (max e f)) (newRows site 1 (chosen site))
+unfolding flip32Bytes
+flip32-accepted block out e f h =
+    let r = flips-32 block out e f h in
+    rw h (site-accepted block e f (r .sound) (rw (r .closed)) (omega (arith, r .three)) (r .way)
+    (room-32 block e f (r .sound) (r .closed) (r .three)))
+
+-- the two rows of a 2-3 flip that is not refused
+pub flips-facing : (block out : List ℕ) (x y z : ℕ) → Flips23 block out x y z
+    → Facing (length (fieldsOf block .points)) (pairOf (fieldsOf block) (x ∷ y ∷ z ∷ [])) (x ∷ y ∷ z ∷ [])
+flips-facing block out x y z r =
+    let count = length (fieldsOf block .points) in
+    two-facing count (fieldsOf block) (x ∷ y ∷ z ∷ []) refl (face-apart count (x ∷ y ∷ z ∷ []) (r .numbers)) (opens-rule block (r .opens))
+    (r .some-row) (r .no-single) (r .apart)
+
+pub flip23-accepted : (block out : List ℕ) (x y z : ℕ) → flip23Answer block out x y z ≡ 0
+    → let face = x ∷ y ∷ z ∷ [] in
+    Accepted block (flip23Bytes block out x y z) (holdsFace face) (threeRows (pairOf (fieldsOf block) face) face)
+unfolding flip23Bytes patchAfter23 pairOf
+flip23-accepted block out x y z h =
+    let r = flips-23 block out x y z h in
+    let face : List ℕ = x ∷ y ∷ z ∷ [] in
+    let patch = fieldsOf block in
+    let pair = pairOf patch face in
+    rw h
+    (accepted block (r .opens) (patchAfter23 patch face .rows) (r .room) (r .rule) (holdsFace face) (threeRows pair face) refl
+    (flipped-total patch face (flips-facing block out x y z r)))

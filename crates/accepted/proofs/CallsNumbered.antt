@@ -1,0 +1,74 @@
+-- The numbers that come: what a call returns has the number of its definition, a removal's is on its list, and a refusal leaves the output
+-- as it came and returns nothing else.
+use Prim.Native.Nat.{ℕ, zero, suc}
+use mathlib.Core.List.{List, []}
+use mathlib.Core.Path.{_≡_, refl, ap}
+use borrow.Author.Tests.{ne-eqb}
+use lib.Dec.{T}
+use Rattle.lists.specs.Lists.{has}
+use Rattle.page.specs.Page.{shown, pageRow}
+use Rattle.layout.specs.Layout.{fieldsOf}
+use Rattle.body.specs.Body.{bodyTests}
+use Rattle.answers.specs.Answers.{written, numberOf}
+use Rattle.block.specs.Opening.{openAnswer, openGives}
+use Rattle.answers.proofs.Refusals.{on-list, number-of}
+use Rattle.tally.specs.Tally.{worstOfPatch}
+use Rattle.ring.specs.Ring.{siteOf, edgeTests, ringWith}
+use Rattle.calls.specs.declared.Removal.the-variants.{Done, Refused}
+use Rattle.calls.specs.declared.Removed.{Removed}
+use Rattle.calls.specs.Summarising.{summaryGives, summaryNumber}
+use Rattle.calls.specs.Removing.{blockTests, patchAfter, removalTests, removeAnswer, removeGives, removalNumber}
+use Rattle.accepted.specs.CallNumbers.{removeNumbers}
+
+-- any number but 0 leaves the output as it came
+pub kept-out : (answer : ℕ) (bytes out : List ℕ) → (answer ≡ 0 → ⊥) → written answer bytes out ≡ out
+kept-out answer bytes out h = rw (ne-eqb answer 0 h)
+
+pub open-number : (block : List ℕ) → numberOf (openGives block .answer) ≡ openAnswer block
+unfolding openGives
+open-number block = number-of (openAnswer block)
+
+pub summary-number : (block : List ℕ) → summaryNumber (summaryGives block) ≡ openAnswer block
+unfolding summaryGives
+summary-number block = go (openAnswer block) refl
+  where
+    go : (n : ℕ) → openAnswer block ≡ n → summaryNumber (summaryGives block) ≡ n
+    go zero e = rw (e, summaryNumber)
+    go (suc n) e = rw (e, summaryNumber)
+
+pub remove-listed : (block out : List ℕ) (e f : ℕ) → T (has removeNumbers (removeAnswer block out e f))
+unfolding removeAnswer blockTests bodyTests edgeTests removalTests
+remove-listed block out e f = on-list _
+
+-- with answer 0 a removal gives the page row and the ring
+pub gives-done : (block out : List ℕ) (e f : ℕ) → removeAnswer block out e f ≡ 0
+    → let patch = fieldsOf block in
+    let site = siteOf patch e f in
+    removeGives block out e f
+    ≡ record {
+      removal = Done (pageRow (shown (worstOfPatch patch)) (shown (worstOfPatch (patchAfter site))));
+      ring = ringWith (site .ring);
+    }
+unfolding removeGives
+gives-done block out e f h = rw (h, removeGives)
+
+-- a refusal returns its number and nothing else
+pub gives-refused : (block out : List ℕ) (e f n : ℕ) → removeAnswer block out e f ≡ suc n
+    → removeGives block out e f ≡ record { removal = Refused (suc n); ring = ringWith [] }
+unfolding removeGives
+gives-refused block out e f n h = rw (h, removeGives)
+
+pub remove-number : (block out : List ℕ) (e f : ℕ) → removalNumber (removeGives block out e f .removal) ≡ removeAnswer block out e f
+remove-number block out e f = go (removeAnswer block out e f) refl
+  where
+    go : (n : ℕ) → removeAnswer block out e f ≡ n → removalNumber (removeGives block out e f .removal) ≡ n
+    go zero h = ap (λ (r : Removed). removalNumber (r .removal)) (gives-done block out e f h)
+    go (suc n) h = ap (λ (r : Removed). removalNumber (r .removal)) (gives-refused block out e f n h)
+
+-- nor a ring
+pub gives-no-ring : (block out : List ℕ) (e f : ℕ) → (removeAnswer block out e f ≡ 0 → ⊥) → removeGives block out e f .ring ≡ ringWith []
+gives-no-ring block out e f other = go (removeAnswer block out e f) refl
+  where
+    go : (n : ℕ) → removeAnswer block out e f ≡ n → removeGives block out e f .ring ≡ ringWith []
+    go zero h = absurd (other h)
+    go (suc n) h = ap (λ (r : Removed). r .ring) (gives-refused block out e f n h)

@@ -1,0 +1,5 @@
+pub mod CallsNumbered
+pub mod AcceptedBytes
+pub mod ChosenWay
+pub mod AcceptedCalls
+pub mod AfterRemoval

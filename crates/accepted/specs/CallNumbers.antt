@@ -1,0 +1,23 @@
+-- Requirement §9: the numbers that each call answers, in the order of the table of answers.
+use Prim.Native.Nat.{ℕ}
+use mathlib.Core.List.{List, [], _∷_, _++_}
+
+-- the numbers that opening, the summary and what is shown answer
+abbrev pub openNumbers : List ℕ
+openNumbers = 0 ∷ 1 ∷ 2 ∷ 3 ∷ 4 ∷ 5 ∷ 6 ∷ 7 ∷ 8 ∷ []
+
+-- the numbers that sealing answers
+abbrev pub sealNumbers : List ℕ
+sealNumbers = 0 ∷ 1 ∷ 3 ∷ 4 ∷ 5 ∷ 6 ∷ 7 ∷ 8 ∷ []
+
+-- the numbers that a removal answers
+abbrev pub removeNumbers : List ℕ
+removeNumbers = openNumbers ++ (9 ∷ 10 ∷ 11 ∷ 12 ∷ 13 ∷ 19 ∷ 14 ∷ 15 ∷ 16 ∷ 17 ∷ [])
+
+-- the numbers that a 3-2 flip answers
+abbrev pub flip32Numbers : List ℕ
+flip32Numbers = openNumbers ++ (9 ∷ 10 ∷ 11 ∷ 12 ∷ 13 ∷ 15 ∷ [])
+
+-- the numbers that a 2-3 flip answers
+abbrev pub flip23Numbers : List ℕ
+flip23Numbers = openNumbers ++ (9 ∷ 10 ∷ 11 ∷ 18 ∷ 14 ∷ 15 ∷ [])

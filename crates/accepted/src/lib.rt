@@ -1,0 +1,1 @@
+// What an accepted call leaves, and which numbers come; nothing here runs.

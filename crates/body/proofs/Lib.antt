@@ -1,0 +1,3 @@
+pub mod RightBodies
+pub mod BodyWritten
+pub mod BodyAnswers

@@ -1,0 +1,4 @@
+pub mod HandedOn
+pub mod CallTests
+pub mod SoundEdges
+pub mod BestDecides

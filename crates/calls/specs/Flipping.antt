@@ -1,0 +1,98 @@
+-- Requirement §8: from all inputs to the answer and every byte of the output.
+use Prim.Native.Nat.{ℕ, max}
+use mathlib.Core.Bool.{not}
+use mathlib.Core.List.{List, [], _∷_, _++_, map, foldr}
+use lib.Dec.{eqb, ltb}
+use lib.ListN.{length}
+use Rattle.lists.specs.Lists.{those, firstOr, has}
+use Rattle.rows.specs.declared.Row.{Row}
+use Rattle.rows.specs.Rows.{numbers, holdsFace, noRow}
+use Rattle.mesh.specs.Mesh.{keepsMeshRule}
+use Rattle.rows.specs.Tetrahedra.{arrangedFrom}
+use Rattle.layout.specs.Layout.{Patch, maxRows, fieldsOf, bytesOf}
+use Rattle.answers.specs.Answers.{Tests, firstRefusal, written}
+use Rattle.ring.specs.Ring.{Site, siteOf, m, minRing, numbersWrong, ringsAlone, edgeTests}
+use Rattle.walk.specs.Walk.{smallest}
+use Rattle.triangulation.specs.Triangulation.{regionOf}
+use Rattle.calls.specs.Removing.{blockTests, noWay, patchAfter}
+
+-- ---- the 3-2 flip: removal of an edge with a closed ring of m = 3, with no quality test
+
+-- answers 13 and 15 of a 3-2 flip; 13: m is not 3; one row fewer comes than goes, so there is always room
+unfoldable pub flip32Tests : Site → Tests
+flip32Tests site = (13, not (eqb (m site) minRing)) ∷ (15, noWay site) ∷ []
+
+-- numbered answers, tested from the top
+unfoldable pub flip32Answer : List ℕ → List ℕ → ℕ → ℕ → ℕ
+flip32Answer block out e f =
+    let site = siteOf (fieldsOf block) e f in
+    firstRefusal (blockTests block out ++ edgeTests ringsAlone site e f ++ flip32Tests site)
+
+-- each byte of the output block after the 3-2 flip of edge e f
+unfoldable pub flip32Bytes : List ℕ → List ℕ → ℕ → ℕ → List ℕ
+flip32Bytes block out e f = written (flip32Answer block out e f) (bytesOf (patchAfter (siteOf (fieldsOf block) e f))) out
+
+-- ---- the 2-3 flip: a face in two rows
+
+-- the apex of a row over the face: its number that the face has not
+unfoldable pub apexOver : List ℕ → Row → ℕ
+apexOver face row = firstOr 0 (λ n. not (has face n)) (numbers row)
+
+-- A face in its patch: the rows that go and the rows kept, each in order; a is the smaller apex, b the other; a's row.
+pub record Pair : Type 0 where
+  pub removed : List Row
+  pub kept : List Row
+  pub a : ℕ
+  pub b : ℕ
+  pub rowOfA : Row
+
+-- the rows that hold the face, their apexes and the other rows
+unfoldable pub pairOf : Patch → List ℕ → Pair
+pairOf patch face =
+    let removed = those (holdsFace face) (patch .rows) in
+    let kept = those (λ row. not (holdsFace face row)) (patch .rows) in
+    let apexes = map (apexOver face) removed in
+    let a = smallest apexes in
+    let b = foldr max 0 apexes in
+    let rowOfA = firstOr noRow (λ row. eqb (apexOver face row) a) removed in
+    record { removed = removed; kept = kept; a = a; b = b; rowOfA = rowOfA }
+
+-- u is the smallest number of the face, and (a,u,v,w) an even arrangement of a's row: (a,b,u,v), (a,b,v,w), (a,b,w,u)
+unfoldable pub threeRows : Pair → List ℕ → List Row
+threeRows pair face =
+    let t = arrangedFrom (pair .a) (smallest face) (pair .rowOfA) in
+    let u = t .q in
+    let v = t .r in
+    let w = t .s in
+    let region = regionOf (pair .removed) in
+    let row : ℕ → ℕ → Row = λ x y. record { p = pair .a; q = pair .b; r = x; s = y; region = region } in
+    row u v ∷ row v w ∷ row w u ∷ []
+
+-- both rows go; the three are appended
+unfoldable pub patchAfter23 : Patch → List ℕ → Patch
+patchAfter23 patch face =
+    let pair = pairOf patch face in
+    record { points = patch .points; rows = pair .kept ++ threeRows pair face }
+
+-- answers 9 to 15 of a 2-3 flip
+unfoldable pub flip23Tests : Patch → List ℕ → Tests
+flip23Tests patch face =
+    let count = length (patch .points) in
+    let pair = pairOf patch face in
+    let rows = patchAfter23 patch face .rows in
+    (9, numbersWrong count face)
+    ∷ (10, eqb (length (pair .removed)) 0)
+    ∷ (11, eqb (length (pair .removed)) 1)
+    ∷ (18, eqb (pair .a) (pair .b))
+    ∷ (14, ltb maxRows (length rows))
+    ∷ (15, not (keepsMeshRule count rows)) ∷ []
+
+-- numbered answers, tested from the top
+unfoldable pub flip23Answer : List ℕ → List ℕ → ℕ → ℕ → ℕ → ℕ
+flip23Answer block out x y z =
+    firstRefusal (blockTests block out ++ flip23Tests (fieldsOf block) (x ∷ y ∷ z ∷ []))
+
+-- each byte of the output block after the 2-3 flip of face x y z
+unfoldable pub flip23Bytes : List ℕ → List ℕ → ℕ → ℕ → ℕ → List ℕ
+flip23Bytes block out x y z =
+    written (flip23Answer block out x y z) (bytesOf (patchAfter23 (fieldsOf block) (x ∷ y ∷ z ∷ []))) out

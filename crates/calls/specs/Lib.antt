@@ -1,0 +1,3 @@
+pub mod Summarising
+pub mod Removing
+pub mod Flipping

@@ -1,0 +1,2 @@
+pub mod SideKnown
+pub mod CandidateComputed

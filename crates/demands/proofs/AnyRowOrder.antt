@@ -1,0 +1,184 @@
+-- The order of the rows and their even arrangement change no answer of a removal or a flip, nor the ring, nor the numbers of the new rows:
+-- what is so of two tables of the same tetrahedra is so of two blocks that hold them.
+use Prim.Native.Nat.{ℕ, zero, suc, _-_, min, max}
+use mathlib.Core.Bool.{Bool, true, false, cond, not, _&&_}
+use mathlib.Core.List.{List, [], _∷_, _++_, append-assoc, map}
+use mathlib.Core.Path.{_≡_, refl, sym, ap, _∙_}
+use borrow.Author.Tests.{eqb-true, eqb-false, eq-eqb}
+use lib.Dec.{eqb, ltb}
+use lib.ListN.{length}
+use lib.Seq.{take-append-seam, drop-append-seam}
+use Rattle.lists.specs.Lists.{every, any, those, different}
+use Rattle.rows.specs.declared.Row.{Row}
+use Rattle.rows.specs.Rows.{numbers, holdsEdge, holdsFace}
+use Rattle.rows.specs.Tetrahedra.{SameTetrahedra}
+use Rattle.layout.specs.Layout.{fieldsOf}
+use Rattle.answers.specs.Answers.{Tests, firstRefusal, answerOf}
+use Rattle.block.specs.Opening.{notBlock}
+use Rattle.answers.proofs.Refusals.{refuses, number-of}
+use Rattle.block.proofs.RightBlocks.{opens}
+use Rattle.answers.proofs.ByNumber.{same-behind}
+use Rattle.ring.specs.Ring.{siteOf, numbersWrong, ringsAlone, orChains, edgeTests, ringWith}
+use Rattle.ring.specs.declared.Ring.{Ring}
+use Rattle.calls.specs.Removing.{blockTests, removeAnswer, removeBytes, removeGives, Sound}
+use Rattle.calls.specs.declared.Removed.{Removed}
+use Rattle.calls.specs.Flipping.{flip32Answer, flip32Bytes, pairOf, flip23Tests, flip23Answer, flip23Bytes}
+use Rattle.calls.proofs.CallTests.{block-opened, taken, removes, flips-32, flips-23}
+use Rattle.calls.proofs.SoundEdges.{sound-site, ends-fit}
+use Rattle.tables.proofs.SameTables.{SameTables}
+use Rattle.tables.proofs.FacingRows.{face-apart}
+use Rattle.tables.proofs.RemovalInAnyOrder as Removal
+use Rattle.tables.proofs.FlipInAnyOrder as Flip
+use Rattle.accepted.proofs.CallsNumbered.{gives-done, gives-refused, remove-number}
+use Rattle.accepted.proofs.AcceptedCalls.{remove-accepted, flip32-accepted, flip23-accepted}
+use Rattle.demands.specs.Orders.{SameMesh, SameOutput, AnyRowOrder}
+use Rattle.demands.specs.Kernels.{ours}
+
+-- the tables of two blocks with the same mesh
+tables : {block other : List ℕ} → SameMesh block other → SameTables (fieldsOf block) (fieldsOf other)
+tables same = record {
+  points = same .points;
+  rule = same .right .body .rule;
+  other-rule = same .other-right .body .rule;
+  tetrahedra = same .tetrahedra;
+}
+
+-- ---- the answers
+
+-- 9: an end equal to the other
+nine : (chains : Bool) (block : List ℕ) {e f : ℕ} (rest : Tests) → e ≡ f
+    → firstRefusal (edgeTests chains (siteOf (fieldsOf block) e f) e f ++ rest) ≡ 9
+unfolding edgeTests numbersWrong every different any
+nine chains block {e} {f} rest h = refuses 9 _ _ (rw (eq-eqb e f h) (wrong (ltb e _) (ltb f _)))
+  where
+    wrong : (a b : Bool) → not ((a && (b && true)) && false) ≡ true
+    wrong true true = refl
+    wrong true false = refl
+    wrong false b = refl
+
+-- the tests of an edge, then others that are the same where the edge is sound
+edge-then : (chains : Bool) (block other out : List ℕ) (e f : ℕ) → SameMesh block other → (rest its-rest : Tests)
+    → ((e ≡ f → ⊥) → Sound block e f → Sound other e f → firstRefusal rest ≡ firstRefusal its-rest)
+    → firstRefusal (blockTests block out ++ edgeTests chains (siteOf (fieldsOf block) e f) e f ++ rest)
+    ≡ firstRefusal (blockTests other out ++ edgeTests chains (siteOf (fieldsOf other) e f) e f ++ its-rest)
+unfolding firstRefusal
+edge-then chains block other out e f same rest its-rest behind =
+    ap firstRefusal (append-assoc (blockTests block out) (edges block) rest)
+    ∙ block-opened block out (edges block ++ rest) (opens block (same .right))
+    ∙ ap (λ n. cond (notBlock out) 1 n) (go (eqb e f) refl)
+    ∙ sym (block-opened other out (edges other ++ its-rest) (opens other (same .other-right)))
+    ∙ sym (ap firstRefusal (append-assoc (blockTests other out) (edges other) its-rest))
+  where
+    edges : List ℕ → Tests
+    edges block = edgeTests chains (siteOf (fieldsOf block) e f) e f
+
+    go : (b : Bool) → eqb e f ≡ b → firstRefusal (edges block ++ rest) ≡ firstRefusal (edges other ++ its-rest)
+    go true h = nine chains block rest (eqb-true e f h) ∙ sym (nine chains other its-rest (eqb-true e f h))
+    go false h =
+        let apart = eqb-false e f h in
+        let tests = Removal.edge-same (fieldsOf block) (fieldsOf other) e f (tables same) apart in
+        same-behind (edges block) rest its-rest
+        (λ passes.
+        let one = taken chains (siteOf (fieldsOf block) e f) e f passes .0 in
+        behind apart (record { opens = opens block (same .right); one = one })
+        (record { opens = opens other (same .other-right); one = rw (← (tests orChains)) one }))
+        ∙ ap (λ front. firstRefusal (front ++ its-rest)) (tests chains)
+
+-- ---- the calls
+
+-- two tables, each the rows that stay and the others behind them
+same-output : {block other output its-output : List ℕ} (goes : Row → Bool) (new its-new : List Row)
+    → fieldsOf output .rows ≡ those (λ row. not (goes row)) (fieldsOf block .rows) ++ new
+    → fieldsOf its-output .rows ≡ those (λ row. not (goes row)) (fieldsOf other .rows) ++ its-new
+    → SameTetrahedra (those (λ row. not (goes row)) (fieldsOf block .rows)) (those (λ row. not (goes row)) (fieldsOf other .rows))
+    → map numbers new ≡ map numbers its-new → SameOutput goes block other output its-output
+same-output {block} {other} {output} {its-output} goes new its-new rows its-rows kept fresh =
+    let stay = those (λ row. not (goes row)) (fieldsOf block .rows) in
+    let its-stay = those (λ row. not (goes row)) (fieldsOf other .rows) in
+    record {
+      stayed = rw (rows, its-rows, take-append-seam stay new, take-append-seam its-stay its-new) kept;
+      behind = rw (rows, its-rows, drop-append-seam stay new, drop-append-seam its-stay its-new) fresh;
+    }
+
+module _ (block other out : List ℕ) (e f : ℕ) (same : SameMesh block other) where
+  remove-answer-same : removeAnswer block out e f ≡ removeAnswer other out e f
+  unfolding removeAnswer
+  remove-answer-same =
+      edge-then orChains block other out e f same _ _
+      (λ apart sound its-sound.
+      Removal.removal-same (fieldsOf block) (fieldsOf other) e f (tables same) apart (sound-site block e f sound)
+      (sound-site other e f its-sound))
+
+  flip32-answer-same : flip32Answer block out e f ≡ flip32Answer other out e f
+  unfolding flip32Answer
+  flip32-answer-same =
+      edge-then ringsAlone block other out e f same _ _
+      (λ apart sound its-sound.
+      Removal.flip-same (fieldsOf block) (fieldsOf other) e f (tables same) apart (sound-site block e f sound)
+      (sound-site other e f its-sound))
+
+  -- a refusal returns no ring
+  ring-given-same : removeGives block out e f .ring ≡ removeGives other out e f .ring
+  ring-given-same = go (removeAnswer block out e f) refl
+    where
+      ring-in : Removed → Ring
+      ring-in given = given .ring
+
+      go : (n : ℕ) → removeAnswer block out e f ≡ n → removeGives block out e f .ring ≡ removeGives other out e f .ring
+      go zero h =
+          ap ring-in (gives-done block out e f h)
+          ∙ ap ringWith (Removal.ring-same (fieldsOf block) (fieldsOf other) e f (tables same) (ends-fit block e f (removes block out e f h .sound) .2))
+          ∙ sym (ap ring-in (gives-done other out e f (sym remove-answer-same ∙ h)))
+      go (suc n) h =
+          ap ring-in (gives-refused block out e f n h) ∙ sym (ap ring-in (gives-refused other out e f n (sym remove-answer-same ∙ h)))
+
+  remove-output-same : removeAnswer block out e f ≡ 0
+      → SameOutput (holdsEdge (min e f) (max e f)) block other (removeBytes block out e f) (removeBytes other out e f)
+  unfolding siteOf
+  remove-output-same done =
+      same-output (holdsEdge (min e f) (max e f)) _ _ (remove-accepted block out e f done .rows)
+      (remove-accepted other out e f (sym remove-answer-same ∙ done) .rows) (Removal.kept-same (fieldsOf block) (fieldsOf other) e f (tables same))
+      (Removal.numbers-of (fieldsOf block) (fieldsOf other) e f (tables same) (ends-fit block e f (removes block out e f done .sound) .2))
+
+  flip32-output-same : flip32Answer block out e f ≡ 0
+      → SameOutput (holdsEdge (min e f) (max e f)) block other (flip32Bytes block out e f) (flip32Bytes other out e f)
+  unfolding siteOf
+  flip32-output-same done =
+      same-output (holdsEdge (min e f) (max e f)) _ _ (flip32-accepted block out e f done .rows)
+      (flip32-accepted other out e f (sym flip32-answer-same ∙ done) .rows) (Removal.kept-same (fieldsOf block) (fieldsOf other) e f (tables same))
+      (Removal.numbers-of (fieldsOf block) (fieldsOf other) e f (tables same) (ends-fit block e f (flips-32 block out e f done .sound) .2))
+
+module _ (block other out : List ℕ) (x y z : ℕ) (same : SameMesh block other) where
+  flip23-answer-same : flip23Answer block out x y z ≡ flip23Answer other out x y z
+  unfolding flip23Answer firstRefusal
+  flip23-answer-same =
+      let face : List ℕ = x ∷ y ∷ z ∷ [] in
+      block-opened block out (flip23Tests (fieldsOf block) face) (opens block (same .right))
+      ∙ ap (λ n. cond (notBlock out) 1 n) (Flip.tests-same (fieldsOf block) (fieldsOf other) x y z (tables same))
+      ∙ sym (block-opened other out (flip23Tests (fieldsOf other) face) (opens other (same .other-right)))
+
+  flip23-output-same : flip23Answer block out x y z ≡ 0
+      → SameOutput (holdsFace (x ∷ y ∷ z ∷ [])) block other (flip23Bytes block out x y z) (flip23Bytes other out x y z)
+  unfolding pairOf
+  flip23-output-same done =
+      let face : List ℕ = x ∷ y ∷ z ∷ [] in
+      let r = flips-23 block out x y z done in
+      let apart = face-apart (length (fieldsOf block .points)) face (r .numbers) in
+      let (f, g) = Flip.both-face (fieldsOf block) (fieldsOf other) x y z (tables same) apart (r .some-row) (r .no-single) (r .apart) in
+      same-output (holdsFace face) _ _ (flip23-accepted block out x y z done .rows)
+      (flip23-accepted other out x y z (sym flip23-answer-same ∙ done) .rows) (Flip.kept-same (fieldsOf block) (fieldsOf other) x y z (tables same))
+      (Flip.three-same (fieldsOf block) (fieldsOf other) x y z (tables same) apart f g)
+
+pub any-row-order : AnyRowOrder ours
+unfolding ours
+any-row-order = record {
+  remove-answer = λ block other out e f same.
+      remove-number block out e f ∙ remove-answer-same block other out e f same ∙ sym (remove-number other out e f);
+  ring = ring-given-same;
+  remove-output = λ block other out e f same done.
+      remove-output-same block other out e f same (sym (remove-number block out e f) ∙ done);
+  flip32-answer = λ block other out e f same. ap answerOf (flip32-answer-same block other out e f same);
+  flip32-output = λ block other out e f same done. flip32-output-same block other out e f same (sym (number-of _) ∙ done);
+  flip23-answer = λ block other out x y z same. ap answerOf (flip23-answer-same block other out x y z same);
+  flip23-output = λ block other out x y z same done. flip23-output-same block other out x y z same (sym (number-of _) ∙ done);
+}

@@ -1,0 +1,179 @@
+-- Demand 2: what opening and the summary give, the layout there and back, and what each call that is done leaves.
+use Prim.Native.Nat.{ℕ, min, max}
+use mathlib.Core.Bool.{true, _||_}
+use mathlib.Core.List.{List, [], _∷_}
+use mathlib.Core.Path.{_≡_, refl, sym, ap, _∙_, subst}
+use native.Mathlib.Omega.{arith}
+use borrow.Author.Tests.{eqb-true, eq-eqb, not-false}
+use lib.Ieee.{Float}
+use lib.ListN.{length}
+use Rattle.lists.specs.Lists.{every}
+use Rattle.lists.proofs.Tests.{neither-is}
+use Rattle.rows.specs.Rows.{holdsEdge, holdsFace}
+use Rattle.layout.specs.Layout.{blockBytes, bodyBytes, maxRows, fieldsOf}
+use Rattle.answers.specs.declared.Answer.{Answer}
+use Rattle.answers.specs.declared.Answer.the-variants.{Done as Fine}
+use Rattle.body.specs.Body.{RightBody}
+use Rattle.block.specs.Holding.{RightBlock}
+use Rattle.body.specs.Body.{bodyTests}
+use Rattle.block.specs.Opening.{notBlock, notBody, openGives, sealAnswer, sealBytes}
+use Rattle.answers.specs.Answers.{answerOf}
+use Rattle.answers.proofs.Refusals.{goes-on, number-of}
+use Rattle.block.proofs.OpenedAndSealed.{open-fields}
+use Rattle.answers.proofs.ByNumber.{testOf, passes}
+use Rattle.body.proofs.RightBodies.{body-passes}
+use Rattle.block.proofs.RightBlocks.{right-block, opens}
+use Rattle.layout.proofs.PatchWritten.{read-written}
+use Rattle.block.proofs.RoundTrip.{written-read, opens-written, seal-right, seal-opens}
+use Rattle.display.specs.Display.{shownAnswer, shownOf, shownElements}
+use Rattle.display.proofs.ShownRows.{shown-taken, shown-opens, shown-writes}
+use Rattle.ring.specs.Ring.{Site, siteOf}
+use Rattle.triangulation.specs.Triangulation.{newRows}
+use Rattle.calls.specs.Removing.{removeAnswer, removeGives, removeBytes}
+use Rattle.calls.specs.Flipping.{flip32Answer, flip32Bytes, pairOf, patchAfter23, flip23Answer, flip23Bytes}
+use Rattle.calls.proofs.CallTests.{flips-32, flips-23}
+use Rattle.calls.proofs.SoundEdges.{sound-site}
+use Rattle.tables.specs.RoundAnEdge.{Round}
+use Rattle.tables.proofs.RingReplaced.{way-found}
+use Rattle.tables.proofs.FacingRows.{face-apart}
+use Rattle.tables.proofs.RingOfThree.{across, three-chosen}
+use Rattle.tables.proofs.ApexesByWords.{apexes-found, two-apexes, one-more}
+use Rattle.tables.proofs.ThreeRowsByWords.{reads-so, new-is}
+use Rattle.accepted.specs.Accepted.{Accepted}
+use Rattle.accepted.proofs.CallsNumbered.{open-number, summary-number, remove-number}
+use Rattle.accepted.proofs.AcceptedCalls.{remove-accepted, flip32-accepted, flips-facing, flip23-accepted}
+use Rattle.accepted.proofs.AfterRemoval.{page-given}
+use Rattle.demands.specs.Kernels.{ours, asPatch}
+use Rattle.demands.specs.FlipWords.{Faced}
+use Rattle.demands.specs.Demands.{Sealed, RemovalDone, Flip32Done, Flip23Done, Demand2}
+use Rattle.demands.proofs.SummaryGiven.{summary-of-block}
+use Rattle.demands.proofs.PremisesMet.{sound-round}
+use Rattle.demands.proofs.RemovalWords.{only-0}
+
+-- the fields that opening gives are the block's, as a patch
+patch-read : (block : List ℕ) → RightBlock block → asPatch (openGives block .fields) ≡ fieldsOf block
+unfolding fieldsOf
+patch-read block right = rw (open-fields block (opens block right))
+
+-- three points by name
+three-named : (vs : List ℕ) → length vs ≡ 3 → (u v w : ℕ) × (vs ≡ u ∷ v ∷ w ∷ [])
+three-named [] e = absurd (omega arith)
+three-named (u ∷ []) e = absurd (omega arith)
+three-named (u ∷ v ∷ []) e = absurd (omega arith)
+three-named (u ∷ v ∷ w ∷ []) e = (u, v, w, refl)
+three-named (u ∷ v ∷ w ∷ x ∷ vs) e = absurd (omega arith)
+
+module _ (block out : List ℕ) (e f : ℕ) where
+  abbrev its : Site
+  its = siteOf (fieldsOf block) e f
+
+  removal-done : removeAnswer block out e f ≡ 0 → RemovalDone block out e f (removeGives block out e f) (removeBytes block out e f)
+  unfolding siteOf
+  removal-done h = record {
+    closed = its .closed;
+    vs = its .ring;
+    premises = only-0 block out e f h;
+    accepted = remove-accepted block out e f h;
+    page = page-given block out e f h;
+  }
+
+  -- a ring of three has one way, the triangle
+  flip32-done : flip32Answer block out e f ≡ 0 → Flip32Done block out e f (flip32Bytes block out e f)
+  unfolding siteOf
+  flip32-done h =
+      let r = flips-32 block out e f h in
+      let rows = fieldsOf block .rows in
+      let (u, v, w, ring) = three-named (its .ring) (r .three) in
+      let (t, way) = way-found its (omega (arith, r .three)) (r .way) in
+      let only = three-chosen its (sound-site block e f (r .sound)) (r .three) t way in
+      record {
+        u = u;
+        v = v;
+        w = w;
+        ring = record {
+          right = right-block block (r .sound .opens);
+          right-length = r .size;
+          round = subst (λ vs. Round rows (min e f) (max e f) true vs) ring
+              (subst (λ c. Round rows (min e f) (max e f) c (its .ring)) (r .closed) (sound-round block e f (r .sound)));
+        };
+        accepted = subst (Accepted block (flip32Bytes block out e f) (holdsEdge (min e f) (max e f)))
+            (ap (newRows its 1) only ∙ across its u v w ring) (flip32-accepted block out e f h);
+      }
+
+-- the face of a 2-3 flip that is done, by words
+flip23-done : (block out : List ℕ) (x y z : ℕ) → flip23Answer block out x y z ≡ 0
+    → Flip23Done block out x y z (flip23Bytes block out x y z)
+unfolding patchAfter23 pairOf
+flip23-done block out x y z h =
+    let r = flips-23 block out x y z h in
+    let face : List ℕ = x ∷ y ∷ z ∷ [] in
+    let points = length (fieldsOf block .points) in
+    let pair = pairOf (fieldsOf block) face in
+    let right = right-block block (r .opens) in
+    let f = flips-facing block out x y z r in
+    let apexes = apexes-found (fieldsOf block) x y z (right .body .rule) (face-apart points face (r .numbers)) f in
+    let faced : Faced block out x y z (pair .a) (pair .b) = record { right = right; right-length = r .size; apexes = apexes } in
+    let (u, v, w, read) = reads-so (fieldsOf block) x y z (pair .a) (pair .b) (right .body .rule) apexes (f .less) in
+    record {
+      a = pair .a;
+      b = pair .b;
+      u = u;
+      v = v;
+      w = w;
+      roomy = record {
+        faced = faced;
+        smaller = f .less;
+        read = read;
+        room = omega (arith, one-more (fieldsOf block) face (two-apexes (fieldsOf block) x y z (pair .a) (pair .b) (right .body .rule) apexes), r .room);
+      };
+      accepted = subst (Accepted block (flip23Bytes block out x y z) (holdsFace face))
+          (new-is (fieldsOf block) x y z (pair .a) (pair .b) (right .body .rule) apexes (f .less) u v w read) (flip23-accepted block out x y z h);
+    }
+
+-- what is shown of a right block
+shown-done : (block : List ℕ) (out : List Float) → RightBlock block → length out ≡ maxRows
+    → _≡_ {A = Answer × List Float} (answerOf (shownAnswer block out), shownElements block out) (Fine, shownOf (fieldsOf block))
+shown-done block out right size =
+    let done = shown-taken block out size (opens block right) in
+    λ i. (answerOf (done i), shown-writes block out done i)
+
+-- a right body is sealed
+seal-taken : (body out : List ℕ) → length body ≡ bodyBytes → RightBody body → length out ≡ blockBytes → sealAnswer body out ≡ 0
+unfolding sealAnswer
+seal-taken body out size right room =
+    goes-on 1 (notBody body || notBlock out) (bodyTests body) (rw (eq-eqb (length body) bodyBytes size, eq-eqb (length out) blockBytes room))
+    ∙ body-passes body right
+
+-- and what is sealed was one, and went into an output block of the right length
+seal-done : (body out : List ℕ) → sealAnswer body out ≡ 0 → Sealed body out (sealBytes body out)
+unfolding sealAnswer bodyTests testOf every
+seal-done body out h =
+    let (size, right-one) = seal-right body out h in
+    let (is-body, is-block) = neither-is (notBody body) (notBlock out) (passes 1 ((1, notBody body || notBlock out) ∷ bodyTests body) tt h) in
+    let (o, same) = seal-opens body out h in
+    record {
+      size = size;
+      right-body = right-one;
+      right-length = eqb-true _ _ (not-false _ is-block);
+      right = right-block _ o;
+      same = same;
+    }
+
+pub demand-2 : Demand2 ours
+unfolding ours
+demand-2 = record {
+  read-fields = λ block right. open-fields block (opens block right);
+  read-patch = patch-read;
+  read-right = λ block h. right-block block (sym (open-number block) ∙ h);
+  layout = λ block right. written-read block (opens block right);
+  layout-back = λ patch kept. (right-block _ (opens-written patch kept), read-written patch (kept .within));
+  summary = summary-of-block;
+  summary-right = λ block h. right-block block (sym (summary-number block) ∙ h);
+  shown = shown-done;
+  shown-right = λ block out h. let (size, o) = shown-opens block out (sym (number-of _) ∙ h) in (right-block block o, size);
+  seal-right = λ body out size right room. number-of _ ∙ seal-taken body out size right room;
+  seal = λ body out h. seal-done body out (sym (number-of _) ∙ h);
+  remove = λ block out e f h. removal-done block out e f (sym (remove-number block out e f) ∙ h);
+  flip32 = λ block out e f h. flip32-done block out e f (sym (number-of _) ∙ h);
+  flip23 = λ block out x y z h. flip23-done block out x y z (sym (number-of _) ∙ h);
+}

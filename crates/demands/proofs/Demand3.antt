@@ -1,0 +1,182 @@
+-- Demand 3. Of the answers 16 and 17 alone are left under its premises; 17 never comes, since the total D stays; 16 is given exactly when
+-- each tree has a row no better than now; and the chosen tree is the best. What is so of trees is so of all that cuts the ring.
+use Prim.Native.Nat.{ℕ, _-_, _≤_}
+use mathlib.Core.Bool.{Bool, false, not}
+use mathlib.Core.List.{List, [], _++_}
+use mathlib.Core.Logic.{_↔_}
+use mathlib.Core.Path.{_≡_, sym, ap, _∙_, subst}
+use native.Mathlib.Omega.{arith}
+use lib.Dec.{T, not-T}
+use Rattle.lists.specs.Lists.{every}
+use Rattle.lists.proofs.Tests.{yes-is, is-yes, no-is}
+use Rattle.lists.proofs.Lists.{every-at, every-i}
+use Rattle.quality.specs.Quality.{worse}
+use Rattle.quality.proofs.QualityOrder.{_⊑_, at-most-self, at-most-trans}
+use Rattle.rows.specs.RowMeasure.{rowQuality}
+use Rattle.layout.specs.Layout.{Patch, fieldsOf}
+use Rattle.answers.specs.Answers.{Tests, firstRefusal}
+use Rattle.body.specs.Body.{bodyTests}
+use Rattle.answers.proofs.Refusals.{goes-on}
+use Rattle.answers.proofs.ByNumber.{testOf, before, unlike, passes}
+use Rattle.ring.specs.Ring.{Site, siteOf, m, orChains, notFlat, edgeTests}
+use Rattle.triangulation.specs.Triangulation.{Tri, span, triangles, tableAfter}
+use Rattle.triangulation.specs.Best.{worstOfWay, ringWays, chosen}
+use Rattle.triangulation.proofs.WorstOfWays.{row-fraction, worst-over}
+use Rattle.triangulation.proofs.WholeRing.{RingWay, BestWay, way-listed, listed-way, worst-row}
+use Rattle.calls.specs.Removing.{blockTests, worstNow, noWay, noneBetter, patchAfter, totalDiffers, removalTests, removeAnswer, removeBytes}
+use Rattle.calls.specs.Removing.{Sound}
+use Rattle.calls.proofs.CallTests.{reached}
+use Rattle.tables.proofs.RingReplaced.{way-found, way-there, length-fits}
+use Rattle.accepted.proofs.ChosenWay.{total-stays, site-chosen, some-way}
+use Rattle.accepted.proofs.AfterRemoval.{fields-after}
+use Rattle.demands.specs.Kernels.{ours}
+use Rattle.demands.specs.TriangleSets.{tableBy, NoneBetter}
+use Rattle.demands.specs.Premises.{edgeAt, Premises}
+use Rattle.demands.specs.Demands.{Demand3}
+use Rattle.demands.proofs.Demand1.{numbered}
+use Rattle.demands.proofs.WaysAndTrees.{NoTreeBetter, tree-way, way-tree, tree-table, none-better, best-of}
+use Rattle.answers.proofs.ToldByNumber.{past, once, told, exactly, goes-past}
+use Rattle.demands.proofs.EdgeFound.{sited, ringed-sound, left, length-right, ringed-flat, ringed-room}
+
+-- ---- 17 never occurs
+
+front-not-17 : (block out : List ℕ) (site : Site) (e f : ℕ) → T (unlike 17 (blockTests block out ++ edgeTests orChains site e f))
+unfolding blockTests bodyTests edgeTests every
+front-not-17 block out site e f = tt
+
+-- the total of a ring or of a flat chain cancels, so the guard is never met
+pub never-17 : (block out : List ℕ) (e f : ℕ) → removeAnswer block out e f ≡ 17 → ⊥
+unfolding removeAnswer removalTests patchAfter once before testOf every
+never-17 block out e f h =
+    let site = siteOf (fieldsOf block) e f in
+    let (sound, size, rest, closed) =
+    reached orChains block out e f (removalTests (fieldsOf block) site) 17 (front-not-17 block out site e f) h in
+    let all = removalTests (fieldsOf block) site in
+    let (front, differs) = told 17 all tt tt rest in
+    let first = before 17 all in
+    let three = length-fits site (passes 13 first tt front) .0 in
+    let (t, w) = way-found site three (passes 15 first tt front) in
+    let best = site-chosen block e f sound three t w in
+    let stays = total-stays block e f sound (passes 19 first tt front) (chosen site) (best .way .spans) in
+    subst T (sym differs ∙ stays) tt
+
+-- ---- none better
+
+module _ (site : Site) (three : 3 ≤ m site) where
+  none→ : T (noneBetter site) → NoTreeBetter site
+  unfolding noneBetter
+  none→ h t w =
+      let (row, k, e) = worst-row site three t (w .spans) in
+      let own = every-at (λ t. not (worse (worstNow site) (worstOfWay site 1 t))) (ringWays site) h (way-listed site three w) in
+      (row, k, subst (λ q. T (not (worse (worstNow site) q))) (sym e) own)
+
+  →none : NoTreeBetter site → T (noneBetter site)
+  unfolding noneBetter
+  →none h = every-i (λ t. not (worse (worstNow site) (worstOfWay site 1 t))) (ringWays site) (λ t k.
+      let (row, i, good) = h t (listed-way site three k) in
+      let q = worstOfWay site 1 t in
+      let low : q ⊑ rowQuality (site .points) row = worst-over site q 1 t (at-most-self q) row i in
+      let high : rowQuality (site .points) row ⊑ worstNow site = record { not-worse = good } in
+      at-most-trans (row-fraction (site .points) row) low high .not-worse)
+
+-- ---- the demand
+
+module _ (block out : List ℕ) (e f : ℕ) (closed : Bool) (vs : List ℕ) (given : Premises block out e f closed vs) where
+  abbrev its : Site
+  its = edgeAt (fieldsOf block) e f closed vs
+
+  -- the edge that the kernel finds is this one
+  is : siteOf (fieldsOf block) e f ≡ its
+  is = sited block out e f closed vs (given .ringed)
+
+  sound : Sound block e f
+  sound = ringed-sound block out e f closed vs (given .ringed)
+
+  three : 3 ≤ m its
+  three = given .ringed .from-three
+
+  -- some tree keeps the mesh rule
+  some-tree : (t : Tri) × RingWay its t
+  some-tree =
+      let (ts, w) = given .some-way in
+      let (t, own, alike, one) = way-tree its (omega (arith, three)) ts w in
+      (t, own)
+
+  best : BestWay its (chosen its)
+  best =
+      let (t, w) = some-tree in
+      subst (λ (s : Site). 3 ≤ m s → (t : Tri) → RingWay s t → BestWay s (chosen s)) is (site-chosen block e f sound) three t w
+
+  not-15 : noWay its ≡ false
+  not-15 =
+      let (t, w) = some-tree in
+      way-there its three t w
+
+  not-17 : totalDiffers (fieldsOf block) (patchAfter its) ≡ false
+  unfolding patchAfter
+  not-17 =
+      subst (λ (s : Site). notFlat s ≡ false → (t : Tri) → span t ≡ m s - 1
+      → totalDiffers (fieldsOf block) (record { points = s .points; rows = tableAfter s t }) ≡ false)
+      is (total-stays block e f sound) (ringed-flat block out e f closed vs (given .ringed) (given .flat)) (chosen its) (best .way .spans)
+
+  abbrev tests : Tests
+  tests = removalTests (fieldsOf block) its
+
+  left-one : removeAnswer block out e f ≡ firstRefusal tests
+  left-one = left block out e f closed vs (given .ringed)
+
+  -- all other tests are passed
+  front-16 : firstRefusal (before 16 tests) ≡ 0
+  unfolding removalTests before firstRefusal
+  front-16 =
+      rw (
+        length-right block out e f closed vs (given .ringed),
+        ringed-flat block out e f closed vs (given .ringed) (given .flat),
+        ringed-room block out e f closed vs (given .ringed) (given .flat) (given .room),
+        not-15,
+      )
+
+  pub answer-16 : (removeAnswer block out e f ≡ 16) ↔ NoneBetter its
+  unfolding removalTests once testOf every
+  answer-16 =
+      let (to, from) = none-better its (omega (arith, three)) in
+      let (there, back) = exactly 16 tests tt tt tt left-one front-16 in (
+        λ h. from (none→ its three (is-yes (noneBetter its) (there h))),
+        λ h. back (yes-is (noneBetter its) (→none its three (to h))),
+      )
+
+  -- otherwise 0, and nothing else
+  answer-0 : (NoneBetter its → ⊥) → removeAnswer block out e f ≡ 0
+  unfolding removalTests before past testOf firstRefusal every
+  answer-0 h =
+      let (to, from) = none-better its (omega (arith, three)) in
+      left-one
+      ∙ goes-past 16 tests tt front-16 (no-is (noneBetter its) (not-T (noneBetter its) (λ k. h (from (none→ its three k)))))
+      ∙ goes-on 17 (totalDiffers (fieldsOf block) (patchAfter its)) [] not-17
+
+  rows-written : removeAnswer block out e f ≡ 0 → fieldsOf (removeBytes block out e f) .rows ≡ tableBy its (triangles 1 (chosen its))
+  unfolding patchAfter
+  rows-written h =
+      ap (λ (patch : Patch). patch .rows) (fields-after block out e f h)
+      ∙ ap (λ (s : Site). tableAfter s (chosen s)) is
+      ∙ sym (tree-table its (chosen its))
+
+pub demand-3 : Demand3 ours
+unfolding ours
+demand-3 block out e f closed vs given =
+    let site = edgeAt (fieldsOf block) e f closed vs in
+    let n = numbered .remove-number block out e f in
+    let best-one = best block out e f closed vs given in
+    let two : 2 ≤ m site = omega (arith, given .ringed .from-three) in
+    record {
+      none-better =
+          let (to, from) = answer-16 block out e f closed vs given in
+          (λ h. to (sym n ∙ h), λ h. n ∙ from h);
+      otherwise = λ h. n ∙ answer-0 block out e f closed vs given h;
+      carried-out = λ h. (
+        triangles 1 (chosen site),
+        tree-way site two (chosen site) (best-one .way),
+        rows-written block out e f closed vs given (sym n ∙ h),
+        best-of site two (chosen site) .1 (best-one .none-better),
+      );
+    }

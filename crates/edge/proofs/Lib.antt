@@ -1,0 +1,2 @@
+pub mod EdgeAnswers
+pub mod EdgeRinged

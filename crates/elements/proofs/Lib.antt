@@ -1,0 +1,2 @@
+pub mod SlicesFilled
+pub mod LengthFirst

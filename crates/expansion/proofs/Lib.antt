@@ -1,0 +1,2 @@
+pub mod TreeWritten
+pub mod TreeOfTable

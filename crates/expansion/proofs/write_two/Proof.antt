@@ -1,0 +1,40 @@
+-- `write_two` writes one row and the other after it.
+use Prim.Native.Nat.{_+_}
+use mathlib.Core.List.{[], _∷_}
+use mathlib.Core.Path.{refl, ap, _∙_}
+use native.Mathlib.Omega.{arith}
+use denote.Ref.{now}
+use borrow.Author.Needs.{needs}
+use Rattle.rows.specs.declared.Row.{Row}
+use Rattle.rows.specs.Rows.{withRows}
+use Rattle.rows.proofs.PastedRows.{with-more}
+use Rattle.expansion.proofs.write_two.Statement.{statement}
+use Rattle.expansion.proofs.write_two.Tie as tie
+
+put-row-requires : tie.Need-put-row-requires
+put-row-requires c κs = search needs
+
+add-put-row : tie.Need-add-put-row
+add-put-row c = search needs
+
+put-row-requires-2 : tie.Need-put-row-requires-2
+put-row-requires-2 c κs = search needs
+
+same-length : tie.Need-same-length
+same-length c = search needs
+
+returns : tie.Need-returns
+returns c =
+    let two = c .before .before in
+    let one = two .before .before .before .before in
+    let s = one .before .before .before in
+    let a = s .args in
+    let a-row : Row = record { p = a .rows .a; q = a .rows .x; r = a .rows .y; s = a .rows .z; region = a .region } in
+    let b-row : Row = record { p = a .rows .x; q = a .rows .y; r = a .rows .z; s = a .rows .b; region = a .region } in
+    two .put-row2 .ensures
+    ∙ ap (λ t. withRows t (a .at + 1) (b-row ∷ [])) (one .put-row .ensures)
+    ∙ with-more (now (a .table)) (a .at) (a .at + 1) (a-row ∷ []) (b-row ∷ []) refl (omega (arith, s .pre))
+
+pub write-two-spec : {M : Type 1} → statement M
+write-two-spec =
+    tie.close (tie.spec put-row-requires add-put-row put-row-requires-2 same-length returns)

@@ -1,0 +1,78 @@
+-- `put_three` writes three rows, each behind the one before.
+use Prim.Native.Nat.{ℕ, _+_, _*_, _≤_}
+use mathlib.Core.List.{List, [], _∷_}
+use mathlib.Core.Path.{_≡_, refl, ap, _∙_}
+use native.Mathlib.Omega.{arith}
+use lib.ListN.{length}
+use Rattle.rows.specs.declared.Row.{Row}
+use Rattle.rows.specs.Rows.{rowSize, withRows}
+use Rattle.rows.proofs.PastedRows.{with-more}
+use Rattle.links.specs.Links.{Link}
+use Rattle.face.specs.declared.Sharing.{Sharing}
+use Rattle.face.specs.Steps.{threeOf}
+use borrow.Author.Needs.{needs}
+use Rattle.face.proofs.put_three.Statement.{statement}
+use Rattle.face.proofs.put_three.Tie as tie
+
+-- a row of the edge a, b
+abbrev rowOf : Sharing → ℕ → ℕ → Row
+rowOf found r s = record { p = found .a; q = found .b; r = r; s = s; region = found .region }
+
+module _ (table one two three : List ℕ) (at : ℕ) (found : Sharing) (u v w : ℕ) (l : Link) (room : rowSize * (at + 3) ≤ length table)
+    (follow : (v, w) ≡ l) where
+  all-three : one ≡ withRows table at (rowOf found u v ∷ []) → two ≡ withRows one (at + 1) (rowOf found v w ∷ [])
+      → three ≡ withRows two (at + 2) (rowOf found w u ∷ []) → three ≡ withRows table at (threeOf found u (l .0) (l .1))
+  all-three e f g =
+      let r = rowOf found u v in
+      let s = rowOf found v w in
+      let t = rowOf found w u in
+      g
+      ∙ ap (λ l. withRows l (at + 2) (t ∷ [])) (f ∙ ap (λ l. withRows l (at + 1) (s ∷ [])) e
+      ∙ with-more table at (at + 1) (r ∷ []) (s ∷ []) refl (omega arith))
+      ∙ with-more table at (at + 2) (r ∷ s ∷ []) (t ∷ []) refl (omega arith)
+      ∙ ap (λ (l : Link). withRows table at (threeOf found u (l .0) (l .1))) follow
+
+link-of-requires : tie.Need-link-of-requires
+link-of-requires c κs = search needs
+
+put-row-requires : tie.Need-put-row-requires
+put-row-requires c κs = search needs
+
+add-put-row : tie.Need-add-put-row
+add-put-row c = search needs
+
+put-row-requires-2 : tie.Need-put-row-requires-2
+put-row-requires-2 c κs = search needs
+
+add-put-row-2 : tie.Need-add-put-row-2
+add-put-row-2 c = search needs
+
+put-row-requires-3 : tie.Need-put-row-requires-3
+put-row-requires-3 c κs = search needs
+
+same-length : tie.Need-same-length
+same-length c = search needs
+
+returns : tie.Need-returns
+returns c =
+    let third = c .before .before in
+    let second = third .before .before .before .before in
+    let first = second .before .before .before .before in
+    let linked = first .before .before in
+    let start = linked .before .before .before in
+    all-three (start .args .rows .now) _ _ _ (start .args .at) (start .args .found) (start .args .u) (linked .link-of .result .v)
+    (linked .link-of .result .w) _ (start .pre .0) (linked .link-of .ensures)
+    (first .put-row .ensures) (second .put-row2 .ensures) (third .put-row3 .ensures)
+
+pub put-three-spec : {M : Type 1} → statement M
+put-three-spec =
+    tie.close
+    (tie.spec
+    link-of-requires
+    put-row-requires
+    add-put-row
+    put-row-requires-2
+    add-put-row-2
+    put-row-requires-3
+    same-length
+    returns)

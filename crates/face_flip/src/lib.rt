@@ -1,0 +1,43 @@
+// The 2-3 flip of a face with right numbers in a block that opens: a face in two rows becomes an edge in three.
+ghost use mathlib.Core.Path.{_≡_};
+ghost use Rattle.answers.specs.Answers.{answerOf};
+ghost use Rattle.calls.specs.Flipping.{flip23Answer, flip23Bytes};
+ghost use Rattle.face_flip.specs.Steps.{RightFace};
+use answers::Answer;
+use face::least;
+use face::put_three;
+use face::share;
+use layout::BODY_BYTES;
+use layout::MAX_ROWS;
+use layout::ROWS_AT;
+use layout::TABLE_BYTES;
+
+// Writes the block afterwards, or refuses and leaves every output byte.
+pub fn flip_face(block: &[u8], x: u8, y: u8, z: u8, out: &mut [u8]) -> Answer
+    requires { ⌜ RightFace (now block) (now out) x y z ⌝ }
+    ensures answer { λ r. ⌜ r ≡ answerOf (flip23Answer (now (block .entry)) (now (out .entry)) x y z) ⌝ }
+    ensures bytes { λ r. ⌜ now (out .exit) ≡ flip23Bytes (now (block .entry)) (now (out .entry)) x y z ⌝ }
+{
+    let n = block[2] as usize;
+    let found = share(&block[ROWS_AT..BODY_BYTES], n, x, y, z);
+    if found.n == 0 {
+        return Answer::Refused(answers::NOT_HELD);
+    }
+    if found.n == 1 {
+        return Answer::Refused(answers::NOT_CLOSED);
+    }
+    if found.a == found.b {
+        return Answer::Refused(answers::ONE_APEX);
+    }
+    let mut rows = [0u8; TABLE_BYTES];
+    let kept = output::keep_others(&block[ROWS_AT..BODY_BYTES], n, x, y, z, &mut rows);
+    if MAX_ROWS < kept + 3 {
+        return Answer::Refused(answers::NO_ROOM);
+    }
+    put_three(&mut rows, kept, found, least(x, y, z));
+    if !keys::keeps_mesh_rule(&rows, kept + 3, block[1] as usize) {
+        return Answer::Refused(answers::BLOCKED);
+    }
+    output::write(block, &rows, kept + 3, out);
+    Answer::Done
+}

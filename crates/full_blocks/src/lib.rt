@@ -1,0 +1,1 @@
+// Theorems about blocks with nearly 60 rows; nothing that runs.

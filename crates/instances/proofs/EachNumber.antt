@@ -1,0 +1,137 @@
+-- Each number on a call's list comes: the tables are computed, and each number of a list stands in its table.
+use Prim.Native.Nat.{ℕ}
+use mathlib.Core.Bool.{Bool, not, _&&_}
+use mathlib.Core.List.{List, _++_, map, Memᴰ·of-map}
+use mathlib.Core.Path.{_≡_, _∙_}
+use lib.Dec.{T, eqb, eqb→eq, not-T}
+use Rattle.lists.specs.Lists.{every, any, those, has}
+use Rattle.lists.proofs.Tests.{and-l, and-r}
+use Rattle.lists.proofs.Lists.{every-at, those-i}
+use Rattle.lists.proofs.Numbers.{has-i, has-e}
+use Rattle.layout.specs.Within.{isByte}
+use Rattle.block.specs.Opening.{openAnswer, sealAnswer}
+use Rattle.display.specs.Display.{shownAnswer}
+use Rattle.calls.specs.Summarising.{summaryGives, summaryNumber}
+use Rattle.calls.specs.Removing.{removeAnswer}
+use Rattle.calls.specs.Flipping.{flip32Answer, flip23Answer}
+use Rattle.accepted.specs.CallNumbers.{openNumbers, sealNumbers, removeNumbers, flip32Numbers, flip23Numbers}
+use Rattle.facts.specs.AllDefinitions.{definitions}
+use Rattle.facts.specs.Facts.{blank, blockAWith, blockA, lowA, octahedron, openA, blockedA, sixA}
+use Rattle.plate.specs.Plate.{platePoints, plateRows, plateOf}
+use Rattle.full_blocks.specs.FullBlocks.{strip, sixRing}
+use Rattle.instances.specs.EachNumber.{noneShown, NumbersCome}
+use Rattle.instances.specs.Steps.{Cases, wrongBlocks, openCases, sealCases}
+use Rattle.instances.specs.Steps.{Edge, twoRings, edgeCases, removeCases, flip32Cases, Face, flip23Cases}
+
+-- ---- numbers in a table
+
+module _ {X : Type 0} (bytes : X → List ℕ) (answer : X → ℕ) where
+  -- the input consists of bytes and gets the number
+  abbrev gets : ℕ × X → Bool
+  gets case = every isByte (bytes (case .1)) && eqb (answer (case .1)) (case .0)
+
+  -- a number of the list has its case
+  comes : (cases : Cases X) (numbers : List ℕ) → T (every gets cases) → T (every (has (map (λ case. case .0) cases)) numbers)
+      → (n : ℕ) → T (has numbers n) → (x : X) × T (every isByte (bytes x)) × (answer x ≡ n)
+  comes cases numbers right all n h =
+      let there = every-at (has (map (λ case. case .0) cases)) numbers all (has-e numbers n h) in
+      let (case, m, e) = Memᴰ·of-map (λ (case : ℕ × X). case .0) cases (has-e (map (λ case. case .0) cases) n there) in
+      let both = every-at gets cases right m in
+      let small = every isByte (bytes (case .1)) in
+      let same = eqb (answer (case .1)) (case .0) in
+      (case .1, and-l small same both, eqb→eq (answer (case .1)) (case .0) (and-r small same both) ∙ e)
+
+-- ---- what is computed
+
+-- each case gets its number, and the table has each number of the list
+
+open-get : T (every (gets (λ block. block) openAnswer) openCases)
+unfolding wrongBlocks openCases blockAWith blockA definitions
+open-get = tt
+
+open-all : T (every (has (map (λ case. case .0) openCases)) openNumbers)
+unfolding wrongBlocks openCases every any
+open-all = tt
+
+abbrev summarised : List ℕ → ℕ
+summarised block = summaryNumber (summaryGives block)
+
+summary-get : T (every (gets (λ block. block) summarised) openCases)
+unfolding wrongBlocks openCases summaryGives blockAWith blockA definitions
+summary-get = tt
+
+shown-get : T (every (gets (λ block. block) (λ block. shownAnswer block noneShown)) openCases)
+unfolding wrongBlocks openCases shownAnswer blockAWith blockA definitions
+shown-get = tt
+
+seal-get : T (every (gets (λ body. body) (λ body. sealAnswer body blank)) sealCases)
+unfolding wrongBlocks sealCases sealAnswer blockAWith blockA definitions
+seal-get = tt
+
+seal-all : T (every (has (map (λ case. case .0) sealCases)) sealNumbers)
+unfolding wrongBlocks sealCases every any
+seal-all = tt
+
+-- a block with two ends
+
+abbrev removed : Edge → ℕ
+removed edge = removeAnswer (edge .0) blank (edge .1) (edge .2)
+
+remove-get : T (every (gets (λ (edge : Edge). edge .0) removed) (edgeCases ++ removeCases))
+unfolding
+    wrongBlocks openCases twoRings edgeCases removeCases blockAWith blockA lowA openA blockedA sixA platePoints plateRows plateOf strip sixRing
+    definitions
+remove-get = tt
+
+-- but for 17
+abbrev but17 : List ℕ
+but17 = those (λ n. not (eqb n 17)) removeNumbers
+
+remove-all : T (every (has (map (λ case. case .0) (edgeCases ++ removeCases))) but17)
+unfolding wrongBlocks openCases edgeCases removeCases every any those
+remove-all = tt
+
+abbrev flipped32 : Edge → ℕ
+flipped32 edge = flip32Answer (edge .0) blank (edge .1) (edge .2)
+
+flip32-get : T (every (gets (λ (edge : Edge). edge .0) flipped32) (edgeCases ++ flip32Cases))
+unfolding wrongBlocks openCases twoRings edgeCases flip32Cases blockAWith blockA octahedron openA blockedA sixA definitions
+flip32-get = tt
+
+flip32-all : T (every (has (map (λ case. case .0) (edgeCases ++ flip32Cases))) flip32Numbers)
+unfolding wrongBlocks openCases edgeCases flip32Cases every any
+flip32-all = tt
+
+-- a block with the three numbers of a face
+
+abbrev flipped23 : Face → ℕ
+flipped23 face = flip23Answer (face .0) blank (face .1) (face .2) (face .3)
+
+flip23-get : T (every (gets (λ (face : Face). face .0) flipped23) flip23Cases)
+unfolding wrongBlocks flip23Cases blockAWith blockA strip definitions
+flip23-get = tt
+
+flip23-all : T (every (has (map (λ case. case .0) flip23Cases)) flip23Numbers)
+unfolding wrongBlocks flip23Cases every any
+flip23-all = tt
+
+-- ---- together
+
+pub numbers-come : NumbersCome
+numbers-come = record {
+  opening = comes (λ block. block) openAnswer openCases openNumbers open-get open-all;
+  summary = comes (λ block. block) summarised openCases openNumbers summary-get open-all;
+  shown = comes (λ block. block) (λ block. shownAnswer block noneShown) openCases openNumbers shown-get open-all;
+  sealing = comes (λ body. body) (λ body. sealAnswer body blank) sealCases sealNumbers seal-get seal-all;
+  removal = λ n h other.
+      let not17 = not-T (eqb n 17) (λ t. other (eqb→eq n 17 t)) in
+      let listed = has-i but17 (those-i (λ k. not (eqb k 17)) removeNumbers (has-e removeNumbers n h) not17) in
+      let (edge, bytes, e) = comes (λ (edge : Edge). edge .0) removed (edgeCases ++ removeCases) but17 remove-get remove-all n listed in
+      (edge .0, edge .1, edge .2, bytes, e);
+  flip32 = λ n h.
+      let (edge, bytes, e) = comes (λ (edge : Edge). edge .0) flipped32 (edgeCases ++ flip32Cases) flip32Numbers flip32-get flip32-all n h in
+      (edge .0, edge .1, edge .2, bytes, e);
+  flip23 = λ n h.
+      let (face, bytes, e) = comes (λ (face : Face). face .0) flipped23 flip23Cases flip23Numbers flip23-get flip23-all n h in
+      (face .0, face .1, face .2, face .3, bytes, e);
+}

@@ -1,0 +1,2 @@
+pub mod KeptFacesLookedUp
+pub mod SiteOnRim

@@ -1,0 +1,4 @@
+pub mod FaceKeys
+pub mod FourStored
+pub mod CheckedByKeys
+pub mod RuleByKeys

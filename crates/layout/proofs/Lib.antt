@@ -1,0 +1,4 @@
+pub mod CellsReadBack
+pub mod BlockParts
+pub mod SumLaws
+pub mod PatchWritten

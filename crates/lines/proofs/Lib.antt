@@ -1,0 +1,2 @@
+pub mod FieldsOfALine
+pub mod LineLengths

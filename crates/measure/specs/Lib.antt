@@ -1,4 +1,0 @@
-pub mod Measure
-pub mod Limits
-pub mod Marks
-pub mod Page

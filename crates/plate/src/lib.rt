@@ -1,0 +1,1 @@
+// Theorems about the sample plate; nothing that runs.

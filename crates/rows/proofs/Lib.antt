@@ -1,0 +1,5 @@
+pub mod RowsOfTables
+pub mod PastedRows
+pub mod EvenMoves
+pub mod EvenGroup
+pub mod EvenMeasure

@@ -1,0 +1,60 @@
+-- The rows of a table of bytes: how many, which, and that their numbers are bytes.
+use Prim.Native.Nat.{ℕ, suc, _+_, _*_, _<_}
+use mathlib.Core.List.{List, [], _∷_, _++_, map, List·Memᴰ, Memᴰ·map}
+use mathlib.Core.Path.{_≡_, sym, ap, _∙_, subst}
+use native.Mathlib.Omega.{arith}
+use lib.ListN.{length, getD}
+use Rattle.lists.specs.Lists.{numbersFrom}
+use Rattle.lists.proofs.Numbers.{numbers-i, map-numbers-length, map-numbers-at, map-numbers-append}
+use Rattle.lists.proofs.Places.{in-at}
+use Rattle.rows.specs.declared.Row.{Row}
+use Rattle.rows.specs.Rows.{rowSize, rowIn, rowsIn}
+
+pub rows-length : (table : List ℕ) (n : ℕ) → length (rowsIn table n) ≡ n
+unfolding rowsIn
+rows-length table n = map-numbers-length (rowIn table) n
+
+-- row i of the first n
+pub rows-at : (table : List ℕ) (n i : ℕ) (d : Row) → i < n → getD (rowsIn table n) i d ≡ rowIn table i
+unfolding rowsIn
+rows-at table n i d h = map-numbers-at (rowIn table) n i d h
+
+pub row-among : (table : List ℕ) (n i : ℕ) → i < n → List·Memᴰ (rowIn table i) (rowsIn table n)
+unfolding rowsIn
+row-among table n i h = Memᴰ·map (rowIn table) (numbers-i 0 n i (omega arith) (omega arith))
+
+-- each of the first n rows is one of them by its number
+pub among-rows : (table : List ℕ) (n : ℕ) {row : Row} → List·Memᴰ row (rowsIn table n) → (i : ℕ) × (i < n) × (row ≡ rowIn table i)
+among-rows table n m =
+    let k = in-at (rowsIn table n) (rowIn table 0) m in
+    let h : k .0 < n = omega (arith, k .1, rows-length table n) in
+    (k .0, h, sym (k .2) ∙ rows-at table n (k .0) (rowIn table 0) h)
+
+-- the first n rows and those after them
+pub rows-append : (table : List ℕ) (n k : ℕ) → rowsIn table (n + k) ≡ rowsIn table n ++ map (rowIn table) (numbersFrom n k)
+unfolding rowsIn
+rows-append table n k = map-numbers-append (rowIn table) n k
+
+-- one row more
+pub rows-more : (table : List ℕ) (n : ℕ) → rowsIn table (suc n) ≡ rowsIn table n ++ rowIn table n ∷ []
+unfolding numbersFrom
+rows-more table n = ap (rowsIn table) (omega arith) ∙ rows-append table n 1
+
+-- The point numbers of a row are bytes.
+pub record Bytes (row : Row) : Type 0 where
+  pub byte-p : row .p < 256
+  pub byte-q : row .q < 256
+  pub byte-r : row .r < 256
+  pub byte-s : row .s < 256
+
+pub row-bytes : (table : List ℕ) → ((j : ℕ) → getD table j 0 < 256) → (i : ℕ) → Bytes (rowIn table i)
+unfolding rowIn
+row-bytes table h i = record {
+  byte-p = h (rowSize * i + 0);
+  byte-q = h (rowSize * i + 1);
+  byte-r = h (rowSize * i + 2);
+  byte-s = h (rowSize * i + 3);
+}
+
+pub rows-bytes : (table : List ℕ) → ((j : ℕ) → getD table j 0 < 256) → (n : ℕ) (row : Row) → List·Memᴰ row (rowsIn table n) → Bytes row
+rows-bytes table h n row m = let k = among-rows table n m in subst Bytes (sym (k .2)) (row-bytes table h (k .0))

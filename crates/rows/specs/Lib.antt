@@ -1,0 +1,4 @@
+pub mod Rows
+pub mod Tetrahedra
+pub mod RowMeasure
+pub mod Steps

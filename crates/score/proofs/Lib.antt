@@ -1,0 +1,3 @@
+pub mod ScoreLargest
+pub mod BadnessLeast
+pub mod OctaveLargest

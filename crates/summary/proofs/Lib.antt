@@ -1,0 +1,2 @@
+pub mod BadnessFits
+pub mod TallyRowByRow

@@ -1,0 +1,15 @@
+pub mod ThreeNumbers
+pub mod RowsOverAFace
+pub mod FacingRows
+pub mod AtMostTwoRows
+pub mod ApexesByWords
+pub mod RowsAndLinks
+pub mod RoundByWords
+pub mod CirclesByWords
+pub mod ThreeRowsByWords
+pub mod RingReplaced
+pub mod RingOfThree
+pub mod SameTables
+pub mod RemovalInAnyOrder
+pub mod FlipInAnyOrder
+pub mod FlippedBack

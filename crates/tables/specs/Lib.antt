@@ -1,0 +1,2 @@
+pub mod RoundAnEdge
+pub mod FlipRows

@@ -1,0 +1,1 @@
+// What a replacement of rows does to a table of rows; nothing here runs.

@@ -1,0 +1,19 @@
+-- `Met::or_zero` is `orZero`, case by case.
+use borrow.Author.Needs.{needs}
+use Rattle.tally.proofs.Met.or_zero.Statement.{statement}
+use Rattle.tally.proofs.Met.or_zero.Tie as tie
+
+enum-told : tie.Need-enum-told
+enum-told c = search needs
+
+enum-known-self : tie.Need-enum-known-self
+enum-known-self c = search needs
+
+returns : tie.Need-returns
+returns c = cc
+
+returns-2 : tie.Need-returns-2
+returns-2 c = search needs
+
+pub or-zero-spec : {M : Type 1} → statement M
+or-zero-spec = tie.close (tie.spec enum-told enum-known-self returns returns-2)

@@ -1,0 +1,1 @@
+// The triangulations of a ring or a chain and the best of them; nothing here runs.

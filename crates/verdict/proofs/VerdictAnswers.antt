@@ -1,0 +1,277 @@
+-- Answers 19 and 14 to 17 of a removal, one by one: what decides each, given what the tests above it found.
+use Prim.Native.Nat.{ℕ, suc, _+_, _-_, _*_, _≤_, _<_, min, max}
+use mathlib.Core.Bool.{Bool, true, false, cond, not, _||_}
+use mathlib.Core.List.{List, [], map}
+use mathlib.Core.Option.{Option·getD}
+use mathlib.Core.Path.{_≡_, refl, sym, ap, _∙_, subst}
+use native.Mathlib.Omega.{arith}
+use borrow.Author.Tests.{lt-ltb, le-ltb, ne-eqb, ltb-false}
+use lib.Dec.{T, eqb}
+use lib.IntN.{ℤ, pos}
+use lib.ListN.{length, getD, replicate, List·getD-append}
+use Rattle.lists.specs.Lists.{every, those}
+use Rattle.lists.proofs.Lists.{those-split}
+use Rattle.quality.specs.declared.Quality.{Quality}
+use Rattle.volume.specs.Volume.{pointsIn, sameZ}
+use Rattle.quality.specs.Quality.{worse, worst, zeroQuality}
+use Rattle.volume.proofs.PointsInBytes.{points-length}
+use Rattle.rows.specs.Rows.{rowsIn, holdsEdge}
+use Rattle.rows.specs.Steps.{mostRows}
+use Rattle.mesh.specs.Mesh.{numbersFit}
+use Rattle.rows.specs.RowMeasure.{rowD, rowQuality, totalD}
+use Rattle.mesh.proofs.MeshRuleStated.{keeps-fits}
+use Rattle.rows.proofs.RowsOfTables.{rows-length}
+use Rattle.answers.specs.declared.Answer.the-variants.{Done, Refused}
+use Rattle.layout.specs.Layout.{Patch, maxRows}
+use Rattle.answers.specs.Answers.{Tests, firstRefusal}
+use Rattle.body.specs.Body.{coordinateOver}
+use Rattle.answers.proofs.ByNumber.{testOf, before, unlike, passes, stops}
+use Rattle.tally.specs.Steps.{Measured}
+use Rattle.tally.specs.Tally.{patchIn}
+use Rattle.ring.specs.declared.Ring.{Ring}
+use Rattle.ring.specs.Ring.{Site, siteOf, m, maxRing, flat, notFlat}
+use Rattle.cells.specs.declared.Best.the-variants.{Mark, Worst}
+use Rattle.triangulation.specs.Triangulation.{tableAfter, rowsAfter}
+use Rattle.triangulation.specs.Best.{chosen}
+use Rattle.triangulation.specs.Steps.{siteIn}
+use Rattle.cells.specs.Steps.{bestOf}
+use Rattle.output.specs.Steps.{tableBytes}
+use Rattle.output.proofs.RowsThenZeros.{table-size, table-read}
+use Rattle.replacement.specs.declared.Carried.{Carried}
+use Rattle.output.specs.declared.Rows.{Rows}
+use Rattle.replacement.specs.declared.Plan.{Plan}
+use Rattle.calls.specs.Removing.{worstNow, noRoom, noWay, noneBetter, patchAfter, totalDiffers, replacementTests}
+use Rattle.edge.specs.Steps.{Ringed}
+use Rattle.flatness.specs.Steps.{Crossed, across}
+use Rattle.verdict.specs.Steps.{planAnswer, planOf}
+use Rattle.replacement.specs.Steps.{Carries, rowsWith, planWith, noPlan}
+use Rattle.calls.proofs.BestDecides.{best-decides, chosen-keeps, chosen-rows}
+use Rattle.calls.proofs.HandedOn.{Number, number-handed, handed-done}
+use Rattle.replacement.proofs.CarriedMark.{marked, best-whole, unmarked}
+
+module _ (coordinates : List ℕ) (count : ℕ) (table : List ℕ) (n a b : ℕ) {closed : Bool} {ring : Ring}
+    (given : Ringed coordinates count table n a b closed ring) where
+  abbrev its : Site
+  its = siteIn coordinates count table n a b
+
+  abbrev patch : Patch
+  patch = patchIn coordinates count table n
+
+  three : 3 ≤ m its
+  three = given .ready .long
+
+  ring-size : ring .m ≡ m its
+  ring-size = ap (λ (r : Ring). r .m) (given .ready .found)
+
+  all-rows : length (its .removed) + length (its .kept) ≡ n
+  unfolding siteOf
+  all-rows = those-split (holdsEdge (min a b) (max a b)) (rowsIn table n) ∙ rows-length table n
+
+  ring-long : 2 ≤ ring .m
+  ring-long = omega (arith, ring-size, three)
+
+  -- what is asked where the rows afterwards are counted
+  pub countable : (2 ≤ ring .m) × (ring .m ≤ maxRing) × (n ≤ mostRows) × (ring .m ≤ n + cond closed 0 1)
+  countable =
+      let enough : m its ≤ n + cond (its .closed) 0 1 = omega (arith, all-rows, given .sound .size) in
+      let own : m its ≤ n + cond closed 0 1 = rw (given .ready .is-closed) enough in
+      (ring-long, omega (arith, ring-size, given .ready .short), given .measured .rows-most, omega (arith, ring-size, own))
+
+  -- the rows afterwards
+  room-is : (after : ℕ) → after + ring .m ≡ n + cond closed 0 1 + 2 * (ring .m - 2) → after ≡ rowsAfter its
+  room-is after after-is =
+      let own : after + ring .m ≡ n + cond (its .closed) 0 1 + 2 * (ring .m - 2) = rw (given .ready .is-closed) at after-is in
+      omega (arith, own, ring-size, three, all-rows, given .sound .size)
+
+  -- ---- the row across an open chain
+
+  least : min a b ≡ a
+  least = omega (arith, given .ready .ordered)
+
+  most : max a b ≡ b
+  most = omega (arith, given .ready .ordered)
+
+  at-place : (i : ℕ) → i < m its → getD (ring .v) i 0 ≡ getD (its .ring) i 0
+  at-place i h =
+      ap (λ (r : Ring). getD (r .v) i 0) (given .ready .found)
+      ∙ List·getD-append (its .ring) (replicate (maxRing - m its) 0) 0 i h
+
+  first-place : getD (ring .v) 0 0 ≡ getD (its .ring) 0 0
+  first-place = at-place 0 (omega (arith, three))
+
+  last-place : getD (ring .v) (ring .m - 1) 0 ≡ getD (its .ring) (m its - 1) 0
+  last-place = ap (λ k. getD (ring .v) (k - 1) 0) ring-size ∙ at-place (m its - 1) (omega (arith, three))
+
+  pub crossed : Crossed coordinates count a b ring
+  crossed = record {
+    some-point = omega (arith, ring-long);
+    short = omega (arith, ring-size, given .ready .short);
+    placed = record {
+      points-held = given .ready .points;
+      below-p = omega (arith, given .ready .ordered, given .ready .below);
+      below-q = given .ready .below;
+      below-r = rw first-place (given .ready .ring-below 0 (omega (arith, three)));
+      below-s = rw last-place (given .ready .ring-below (m its - 1) (omega (arith, three)));
+    };
+  }
+
+  own-a : its .a ≡ a
+  unfolding siteOf
+  own-a = least
+
+  own-b : its .b ≡ b
+  unfolding siteOf
+  own-b = most
+
+  own-points : its .points ≡ pointsIn coordinates count
+  unfolding siteOf
+  own-points = refl
+
+  -- a closed ring passes, and an open chain does if D of the row across it is 0
+  pub flat-is : (told : Bool) → told ≡ not (closed || sameZ (rowD (pointsIn coordinates count) (across a b ring)) (pos 0)) → notFlat its ≡ told
+  unfolding flat rowD
+  flat-is told is = sym (is ∙ rw (given .ready .is-closed, first-place, last-place, own-a, own-b, own-points))
+
+  -- the rows afterwards can be measured
+  module _ (rows : Rows) (rows-are : rows ≡ rowsWith (tableAfter its (chosen its))) (way : noWay its ≡ false)
+      (room : rowsAfter its ≤ maxRows) where
+    few-after : length (tableAfter its (chosen its)) ≤ maxRows
+    few-after = omega (arith, chosen-rows its (given .sound) three way)
+
+    pub rows-after : rowsIn (rows .table) (rows .n) ≡ tableAfter its (chosen its)
+    rows-after = ap (λ (rows : Rows). rowsIn (rows .table) (rows .n)) rows-are ∙ table-read (tableAfter its (chosen its))
+
+    measured-after : Measured coordinates count (rows .table) (rows .n)
+    unfolding siteOf coordinateOver
+    measured-after =
+        let size : length (rows .table) ≡ tableBytes = ap (λ (rows : Rows). length (rows .table)) rows-are
+        ∙ table-size (tableAfter its (chosen its)) few-after in
+        let number : rows .n ≡ length (tableAfter its (chosen its)) = ap (λ (rows : Rows). rows .n) rows-are in
+        let fit = keeps-fits (length (its .points)) (tableAfter its (chosen its)) (chosen-keeps its (given .sound) three way) in
+        let own = subst (λ c. T (every (numbersFit c) (tableAfter its (chosen its)))) (points-length coordinates count) fit in
+        record {
+          points-held = given .measured .points-held;
+          rows-held = omega (arith, size, number, few-after);
+          rows-most = omega (arith, number, few-after);
+          on-grid = given .measured .on-grid;
+          proper = rw rows-after own;
+        }
+
+  -- ---- the answers
+
+  abbrev tests : Tests
+  tests = replacementTests patch its
+
+  numbered : T (unlike 0 tests)
+  unfolding every
+  numbered = tt
+
+  -- a refusal, with its number and nothing else
+  refusal : (k : ℕ) → firstRefusal (before (suc k) tests) ≡ 0 → testOf (suc k) tests ≡ true → noPlan (Refused (suc k)) ≡ planOf patch its
+  unfolding planWith planAnswer
+  refusal k front h =
+      let e : planAnswer patch its ≡ suc k = stops (suc k) tests numbered front h in
+      rw (e, ne-eqb (suc k) 0 (λ z. omega arith))
+
+  pub gives-19 : notFlat its ≡ true → noPlan (Refused 19) ≡ planOf patch its
+  unfolding firstRefusal before testOf
+  gives-19 h = refusal 18 refl h
+
+  pub gives-14 : notFlat its ≡ false → (after : ℕ) → after + ring .m ≡ n + cond closed 0 1 + 2 * (ring .m - 2) → maxRows < after
+      → noPlan (Refused 14) ≡ planOf patch its
+  unfolding firstRefusal before testOf
+  gives-14 level after after-is h =
+      refusal 13 (rw level) (lt-ltb maxRows (rowsAfter its) (omega (arith, room-is after after-is)))
+
+  pub has-room : (after : ℕ) → after + ring .m ≡ n + cond closed 0 1 + 2 * (ring .m - 2) → after ≤ maxRows → rowsAfter its ≤ maxRows
+  has-room after after-is h = omega (arith, room-is after after-is)
+
+  module _ (level : notFlat its ≡ false) (room : rowsAfter its ≤ maxRows) (way : Carried) (carries : Carries its way) where
+    roomy : noRoom its ≡ false
+    roomy = le-ltb maxRows (rowsAfter its) room
+
+    pub gives-15 : way .best ≡ Mark → noPlan (Refused 15) ≡ planOf patch its
+    unfolding firstRefusal before testOf
+    gives-15 e = refusal 14 (rw (level, roomy)) (marked its (given .sound) three way carries e)
+
+    module _ (q : Quality) (is : way .best ≡ Worst q) where
+      some-way : noWay its ≡ false
+      some-way = unmarked its (given .sound) three way carries q is
+
+      -- the worst of the rows that hold both ends
+      abbrev round : Quality
+      round = Option·getD (worst (map (rowQuality (pointsIn coordinates count)) (those (holdsEdge a b) (rowsIn table n)))) zeroQuality
+
+      round-now : round ≡ worstNow its
+      unfolding worstNow siteOf
+      round-now = rw (least, most)
+
+      module _ (now : Quality) (now-is : now ≡ round) where
+        decides : noneBetter its ≡ not (worse now q)
+        decides =
+            let (r, top, same) = best-whole its (given .sound) three way carries q is in
+            best-decides its (given .sound) three top q (record { over = carries .fraction q (ap bestOf is) }) same
+            ∙ ap (λ p. not (worse p q)) (sym (now-is ∙ round-now))
+
+        pub gives-16 : worse now q ≡ false → noPlan (Refused 16) ≡ planOf patch its
+        unfolding firstRefusal before testOf
+        gives-16 e = refusal 15 (rw (level, roomy, some-way)) (decides ∙ ap not e)
+
+        after : way .rows ≡ rowsWith (tableAfter its (chosen its))
+        after = carries .rows q (ap bestOf is)
+
+        pub measured-way : Measured coordinates count (way .rows .table) (way .rows .n)
+        measured-way = measured-after (way .rows) after some-way room
+
+        module _ (better : worse now q ≡ true) (before-total after-total : ℤ)
+            (before-is : before-total ≡ totalD (pointsIn coordinates count) (rowsIn table n))
+            (after-is : after-total ≡ totalD (pointsIn coordinates count) (rowsIn (way .rows .table) (way .rows .n))) where
+          some-better : noneBetter its ≡ false
+          some-better = decides ∙ ap not better
+
+          totals : totalDiffers patch (patchAfter its) ≡ not (sameZ before-total after-total)
+          unfolding totalDiffers patchAfter siteOf
+          totals = rw (before-is, after-is, rows-after (way .rows) after some-way room)
+
+          pub gives-17 : not (sameZ before-total after-total) ≡ true → noPlan (Refused 17) ≡ planOf patch its
+          unfolding firstRefusal before testOf
+          gives-17 h = refusal 16 (rw (level, roomy, some-way, some-better)) (totals ∙ h)
+
+          pub gives-0 : not (sameZ before-total after-total) ≡ false
+              → _≡_ {A = Plan} (record { answer = Done; rows = way .rows }) (planOf patch its)
+          unfolding planWith planAnswer firstRefusal
+          gives-0 h =
+              let z : planAnswer patch its ≡ 0 = rw (level, roomy, some-way, some-better, totals ∙ h) in
+              rw (z, after)
+
+  -- ---- what was planned
+
+  module _ (planned : Plan) (i : planned ≡ planOf patch its) where
+    pub plan-refused : (k : ℕ) → planned .answer ≡ Refused k → Number (planAnswer patch its) k
+    unfolding planWith
+    plan-refused k h = number-handed (planAnswer patch its) k (sym (ap (λ (p : Plan). p .answer) i) ∙ h)
+
+    module _ (h : planned .answer ≡ Done) where
+      pub plan-passes : planAnswer patch its ≡ 0
+      unfolding planWith
+      plan-passes = handed-done (planAnswer patch its) (planned .answer) (ap (λ (p : Plan). p .answer) i) h
+
+      pub plan-rows : planned .rows ≡ rowsWith (tableAfter its (chosen its))
+      unfolding planWith
+      plan-rows =
+          ap (λ (p : Plan). p .rows) i ∙ ap (λ n. rowsWith (cond (eqb n 0) (tableAfter its (chosen its)) [])) plan-passes
+
+      has-way : noWay its ≡ false
+      unfolding planAnswer testOf
+      has-way = passes 15 tests numbered plan-passes
+
+      enough : rowsAfter its ≤ maxRows
+      unfolding planAnswer testOf
+      enough = ltb-false maxRows (rowsAfter its) (passes 14 tests numbered plan-passes)
+
+      pub plan-measured : Measured coordinates count (planned .rows .table) (planned .rows .n)
+      plan-measured = measured-after (planned .rows) plan-rows has-way enough
+
+      pub plan-after : patchIn coordinates count (planned .rows .table) (planned .rows .n) ≡ patchAfter its
+      unfolding patchAfter siteOf
+      plan-after = rw (rows-after (planned .rows) plan-rows has-way enough)

@@ -1,0 +1,221 @@
+-- Each way out is one case of the laws on answers 19 and 14 to 17.
+use Prim.Native.Nat.{_≤_}
+use mathlib.Core.Bool.{false}
+use mathlib.Core.Path.{_≡_, sym, _∙_}
+use borrow.Author.Needs.{needs}
+use borrow.Author.Tests.{not-true, not-false}
+use Rattle.volume.specs.Volume.{pointsIn}
+use Rattle.volume.proofs.VolumeComputed.{read}
+use Rattle.rows.specs.Rows.{rowsIn}
+use Rattle.rows.specs.RowMeasure.{totalD}
+use Rattle.layout.specs.Layout.{maxRows}
+use Rattle.ring.specs.Ring.{Site, notFlat}
+use Rattle.triangulation.specs.Triangulation.{rowsAfter}
+use Rattle.triangulation.specs.Steps.{siteIn}
+use Rattle.verdict.proofs.VerdictAnswers.{countable, crossed, flat-is, has-room, measured-way}
+use Rattle.verdict.proofs.VerdictAnswers.{gives-19, gives-14, gives-15, gives-16, gives-17, gives-0}
+use Rattle.verdict.proofs.decide.Statement.{statement}
+use Rattle.verdict.proofs.decide.Tie as tie
+
+-- whether the chain is flat, as it is told
+told : (k : tie.After-not-flat) → let args = k .before .before .before .args in
+    notFlat (siteIn (args .coordinates .now) (args .count) (args .table .now) (args .n) (args .a) (args .b)) ≡ k .not-flat .result
+told k =
+    let start = k .before .before .before in
+    let args = start .args in
+    flat-is (args .coordinates .now) (args .count) (args .table .now) (args .n) (args .a) (args .b) (start .pre)
+    (k .not-flat .result) (k .not-flat .ensures)
+
+-- behind answers 19 and 14
+abbrev At-room : Type 0
+At-room = tie.Else2
+
+abbrev siteAt : At-room → Site
+siteAt k =
+    let args = k .before .before .before .before .before .before .before .args in
+    siteIn (args .coordinates .now) (args .count) (args .table .now) (args .n) (args .a) (args .b)
+
+level : (k : At-room) → notFlat (siteAt k) ≡ false
+level k = told (k .before .before .before .before) ∙ k .before .before .before .if1 .left
+
+room : (k : At-room) → rowsAfter (siteAt k) ≤ maxRows
+room k =
+    let counted = k .before in
+    let start = counted .before .before .before .before .before .before in
+    let args = start .args in
+    has-room (args .coordinates .now) (args .count) (args .table .now) (args .n) (args .a) (args .b) (start .pre) _ (counted .rows-after .ensures)
+    (k .if2 .left)
+
+not-flat-requires : tie.Need-not-flat-requires
+not-flat-requires c κs =
+    let start = c .before .before in
+    let args = start .args in
+    crossed (args .coordinates .now) (args .count) (args .table .now) (args .n) (args .a) (args .b) (start .pre)
+
+no-plan-requires : tie.Need-no-plan-requires
+no-plan-requires c κs = search needs
+
+returns : tie.Need-returns
+returns c =
+    let judged = c .before .before in
+    let start = judged .before .before .before in
+    let args = start .args in
+    c .no-plan .ensures
+    ∙ gives-19 (args .coordinates .now) (args .count) (args .table .now) (args .n) (args .a) (args .b) (start .pre)
+    (told judged ∙ c .before .if1 .taken)
+
+cast-m : tie.Need-cast-m
+cast-m c = search needs
+
+rows-after-requires : tie.Need-rows-after-requires
+rows-after-requires c κs =
+    let start = c .before .before .before .before .before in
+    let args = start .args in
+    countable (args .coordinates .now) (args .count) (args .table .now) (args .n) (args .a) (args .b) (start .pre)
+
+no-plan-requires-2 : tie.Need-no-plan-requires-2
+no-plan-requires-2 c κs = search needs
+
+returns-2 : tie.Need-returns-2
+returns-2 c =
+    let counted = c .before .before in
+    let judged = counted .before .before .before in
+    let start = judged .before .before .before in
+    let args = start .args in
+    c .no-plan2 .ensures
+    ∙ gives-14 (args .coordinates .now) (args .count) (args .table .now) (args .n) (args .a) (args .b) (start .pre)
+    (told judged ∙ counted .before .before .if1 .left) _ (counted .rows-after .ensures) (c .before .if2 .taken)
+
+carry-out-requires : tie.Need-carry-out-requires
+carry-out-requires c κs = (c .before .before .before .before .before .before .before .pre, room c)
+
+enum-known-best : tie.Need-enum-known-best
+enum-known-best c = search needs
+
+enum-told : tie.Need-enum-told
+enum-told c = search needs
+
+no-plan-requires-3 : tie.Need-no-plan-requires-3
+no-plan-requires-3 c κs = search needs
+
+returns-3 : tie.Need-returns-3
+returns-3 c =
+    let carried = c .before .before .before .before in
+    let start = carried .before .before .before .before .before .before .before .before in
+    let args = start .args in
+    c .no-plan3 .ensures
+    ∙ gives-15 (args .coordinates .now) (args .count) (args .table .now) (args .n) (args .a) (args .b) (start .pre)
+    (level (carried .before)) (room (carried .before))
+    _ (carried .carry-out .ensures) (c .before .enum-told .given .1)
+
+worst-round-requires : tie.Need-worst-round-requires
+worst-round-requires c κs = search needs
+
+worse-requires : tie.Need-worse-requires
+worse-requires c κs = search needs
+
+no-plan-requires-4 : tie.Need-no-plan-requires-4
+no-plan-requires-4 c κs = search needs
+
+returns-4 : tie.Need-returns-4
+returns-4 c =
+    let compared = c .before .before in
+    let told = compared .before .before .before in
+    let carried = told .before .before .before in
+    let start = carried .before .before .before .before .before .before .before .before in
+    let args = start .args in
+    c .no-plan4 .ensures
+    ∙ gives-16 (args .coordinates .now) (args .count) (args .table .now) (args .n) (args .a) (args .b) (start .pre)
+    (level (carried .before)) (room (carried .before))
+    _ (carried .carry-out .ensures) _ (told .best .given .1) _ (compared .before .worst-round .ensures)
+    (sym (compared .worse .ensures) ∙ not-true _ (c .before .if3 .taken))
+
+total-volume-requires : tie.Need-total-volume-requires
+total-volume-requires c κs =
+    let carried = c .before .before .before .before .before .before .before in
+    carried .before .before .before .before .before .before .before .before .pre .measured
+
+total-volume-requires-2 : tie.Need-total-volume-requires-2
+total-volume-requires-2 c κs =
+    let compared = c .before .before .before .before .before in
+    let told = compared .before .before .before in
+    let carried = told .before .before .before in
+    let start = carried .before .before .before .before .before .before .before .before in
+    let args = start .args in
+    measured-way (args .coordinates .now) (args .count) (args .table .now) (args .n) (args .a) (args .b) (start .pre)
+    (level (carried .before)) (room (carried .before))
+    _ (carried .carry-out .ensures) _ (told .best .given .1) _ (compared .before .worst-round .ensures)
+
+differ-requires : tie.Need-differ-requires
+differ-requires c κs = search needs
+
+no-plan-requires-5 : tie.Need-no-plan-requires-5
+no-plan-requires-5 c κs = search needs
+
+returns-5 : tie.Need-returns-5
+returns-5 c =
+    let left = c .before .before .before .before .before .before .before .before in
+    let sum = c .before .before .before .before .before .before .before .total-volume in
+    let sum2 = c .before .before .before .total-volume2 in
+    let compared = left .before in
+    let told = compared .before .before .before in
+    let carried = told .before .before .before in
+    let start = carried .before .before .before .before .before .before .before .before in
+    let args = start .args in
+    let points = pointsIn (args .coordinates .now) (args .count) in
+    let way = carried .carry-out .result in
+    c .no-plan5 .ensures
+    ∙ gives-17 (args .coordinates .now) (args .count) (args .table .now) (args .n) (args .a) (args .b) (start .pre)
+    (level (carried .before)) (room (carried .before))
+    _ (carried .carry-out .ensures) _ (told .best .given .1) _ (compared .before .worst-round .ensures)
+    (sym (compared .worse .ensures) ∙ not-false _ (left .if3 .left))
+    _ _ (read {v = totalD points (rowsIn (args .table .now) (args .n))} (sum .ok) (sum .ensures))
+    (read {v = totalD points (rowsIn (way .rows .table) (way .rows .n))} (sum2 .ok) (sum2 .ensures))
+    (sym (c .before .before .differ .ensures) ∙ c .before .if4 .taken)
+
+returns-6 : tie.Need-returns-6
+returns-6 c =
+    let left = c .before .before .before .before .before .before .before in
+    let sum = c .before .before .before .before .before .before .total-volume in
+    let sum2 = c .before .before .total-volume2 in
+    let compared = left .before in
+    let told = compared .before .before .before in
+    let carried = told .before .before .before in
+    let start = carried .before .before .before .before .before .before .before .before in
+    let args = start .args in
+    let points = pointsIn (args .coordinates .now) (args .count) in
+    let way = carried .carry-out .result in
+    gives-0 (args .coordinates .now) (args .count) (args .table .now) (args .n) (args .a) (args .b) (start .pre)
+    (level (carried .before)) (room (carried .before))
+    _ (carried .carry-out .ensures) _ (told .best .given .1) _ (compared .before .worst-round .ensures)
+    (sym (compared .worse .ensures) ∙ not-false _ (left .if3 .left))
+    _ _ (read {v = totalD points (rowsIn (args .table .now) (args .n))} (sum .ok) (sum .ensures))
+    (read {v = totalD points (rowsIn (way .rows .table) (way .rows .n))} (sum2 .ok) (sum2 .ensures))
+    (sym (c .before .differ .ensures) ∙ c .if4 .left)
+
+pub decide-spec : {M : Type 1} → statement M
+decide-spec =
+    tie.close
+    (tie.spec
+    not-flat-requires
+    no-plan-requires
+    returns
+    cast-m
+    rows-after-requires
+    no-plan-requires-2
+    returns-2
+    carry-out-requires
+    enum-known-best
+    enum-told
+    no-plan-requires-3
+    returns-3
+    worst-round-requires
+    worse-requires
+    no-plan-requires-4
+    returns-4
+    total-volume-requires
+    total-volume-requires-2
+    differ-requires
+    no-plan-requires-5
+    returns-5
+    returns-6)

@@ -1,0 +1,5 @@
+pub mod TheSmallest
+pub mod ClosedWalks
+pub mod WalkStepwise
+pub mod LinksClose
+pub mod FirstPoint
