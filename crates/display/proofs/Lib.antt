@@ -1,2 +1,3 @@
+pub mod PageCanShow
 pub mod ElementsInOrder
 pub mod ShownRows

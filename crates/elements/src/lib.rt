@@ -17,9 +17,6 @@ const SUMMARY_ELEMENTS: usize = 7;
 
 const PAGE_ELEMENTS: usize = 2;
 
-// An output of another length than it must have.
-const WRONG_LENGTH: u8 = answers::LENGTH;
-
 // Whether there is a worst score.
 fn has_worst(worst: WorstScore) -> u64
     ensures { λ r. ⌜ r ≡ hasWorst worst ⌝ }
@@ -91,7 +88,7 @@ pub fn store_summary(summarised: Summarised, out: &mut [u64]) -> u8
     ensures elements { λ r. ⌜ now (out .exit) ≡ fitting summaryElements (summaryOver (now (out .entry)) summarised) (now (out .entry)) ⌝ }
 {
     if out.len() != SUMMARY_ELEMENTS {
-        return WRONG_LENGTH;
+        return answers::LENGTH;
     }
     match summarised {
         Summarised::Summary(summary) => {
@@ -108,7 +105,7 @@ pub fn store_page(removal: Removal, row: &mut [f64]) -> u8
     ensures elements { λ r. ⌜ now (row .exit) ≡ fitting pageElements (pageOver (now (row .entry)) removal) (now (row .entry)) ⌝ }
 {
     if row.len() != PAGE_ELEMENTS {
-        return WRONG_LENGTH;
+        return answers::LENGTH;
     }
     match removal {
         Removal::Done(page) => {

@@ -15,7 +15,7 @@ pub fn print(input: &[u8]) -> Text
     ensures fits { λ r. ⌜ length (printout (now (input .entry))) ≤ textBytes ⌝ }
 {
     if !input::right_length(input) {
-        return answered(1);
+        return answered(answers::LENGTH);
     }
     let e = input[BLOCK_BYTES] as usize;
     let f = input[BLOCK_BYTES + 1] as usize;

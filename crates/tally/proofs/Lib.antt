@@ -3,4 +3,3 @@ pub mod TotalRowByRow
 pub mod WorstRowByRow
 pub mod RowsOnGrid
 pub mod OpensMeasured
-pub mod PageCanShow

@@ -11,7 +11,6 @@ use Rattle.volume.specs.Volume.{maxCoordinate, pointBytes}
 use Rattle.volume.proofs.VolumeBounds.{CoordinatesTo}
 use Rattle.quality.proofs.QualityBounds.{partLimit, den-most-128}
 use Rattle.quality.proofs.ConsistentQualities.{Consistent, quality-consistent}
-use Rattle.score.proofs.OctaveLargest as Octaves
 use Rattle.rows.specs.declared.Row.{Row}
 use Rattle.rows.specs.RowMeasure.{place, rowQuality}
 use Rattle.layout.specs.Layout.{Patch}

@@ -4,7 +4,7 @@ use native.Mathlib.Omega.{arith}
 use lib.Ieee.{ofBits}
 use borrow.Author.Needs.{needs}
 use Rattle.tally.proofs.MeasuredRows.{measured-row}
-use Rattle.tally.proofs.PageCanShow.{row-carries}
+use Rattle.display.proofs.PageCanShow.{row-carries}
 use Rattle.display.proofs.ElementsInOrder.{table-shown, table-zero}
 use Rattle.display.proofs.element.Statement.{statement}
 use Rattle.display.proofs.element.Tie as tie

@@ -2,7 +2,7 @@
 use mathlib.Core.Path.{ap, ap₂, _∙_}
 use borrow.Author.Needs.{needs}
 use Rattle.page.specs.Page.{shown, pageRow}
-use Rattle.tally.proofs.PageCanShow.{worst-carries}
+use Rattle.display.proofs.PageCanShow.{worst-carries}
 use Rattle.display.proofs.page_row.Statement.{statement}
 use Rattle.display.proofs.page_row.Tie as tie
 
