@@ -10,9 +10,9 @@ use Rattle.ring.specs.Ring.{Site, siteOf, m, notFlat}
 use Rattle.triangulation.specs.Triangulation.{Tri, span, tableAfter}
 use Rattle.triangulation.specs.Best.{chosen}
 use Rattle.triangulation.proofs.WholeRing.{RingWay, BestWay, ring-chosen}
-use Rattle.calls.specs.Removing.{noWay, totalDiffers, Sound}
+use Rattle.calls.specs.Removing.{noWay, Sound}
 use Rattle.calls.proofs.SoundEdges.{sound-site}
-use Rattle.tables.proofs.RingReplaced.{replaced-total, replaced-same, way-found}
+use Rattle.tables.proofs.RingReplaced.{replaced-total, way-found}
 
 module _ (block : List ℕ) (e f : ℕ) (sound : Sound block e f) where
   abbrev site : Site
@@ -22,10 +22,6 @@ module _ (block : List ℕ) (e f : ℕ) (sound : Sound block e f) where
   pub site-total : notFlat site ≡ false → (t : Tri) → span t ≡ m site - 1
       → totalD (fieldsOf block .points) (tableAfter site t) ≡ totalD (fieldsOf block .points) (fieldsOf block .rows)
   site-total = replaced-total (fieldsOf block) e f (sound-site block e f sound)
-
-  pub total-stays : notFlat site ≡ false → (t : Tri) → span t ≡ m site - 1
-      → totalDiffers (fieldsOf block) (record { points = site .points; rows = tableAfter site t }) ≡ false
-  total-stays = replaced-same (fieldsOf block) e f (sound-site block e f sound)
 
   module _ (three : 3 ≤ m site) where
     -- where some way keeps the mesh rule, the chosen one does, and none has a better worst

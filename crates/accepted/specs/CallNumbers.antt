@@ -12,7 +12,7 @@ sealNumbers = 0 ∷ 1 ∷ 3 ∷ 4 ∷ 5 ∷ 6 ∷ 7 ∷ 8 ∷ []
 
 -- the numbers that a removal answers
 abbrev pub removeNumbers : List ℕ
-removeNumbers = openNumbers ++ (9 ∷ 10 ∷ 11 ∷ 12 ∷ 13 ∷ 19 ∷ 14 ∷ 15 ∷ 16 ∷ 17 ∷ [])
+removeNumbers = openNumbers ++ (9 ∷ 10 ∷ 11 ∷ 12 ∷ 13 ∷ 19 ∷ 14 ∷ 15 ∷ 16 ∷ [])
 
 -- the numbers that a 3-2 flip answers
 abbrev pub flip32Numbers : List ℕ

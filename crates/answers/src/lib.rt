@@ -50,8 +50,7 @@ pub const BLOCKED: u8 = 15;
 // None is better.
 pub const NONE_BETTER: u8 = 16;
 
-// The total D would change: a guard, proved never to be given.
-pub const TOTAL_DIFFERS: u8 = 17;
+// 17 is unused: the total D stays, whichever way a ring or a flat chain is cut.
 
 // Both rows at the face have one apex.
 pub const ONE_APEX: u8 = 18;

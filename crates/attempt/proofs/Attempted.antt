@@ -47,7 +47,7 @@ module _ (block : List ℕ) (e f : ℕ) (opens : openAnswer block ≡ 0) where
   edge = edgeTests orChains site e f
 
   abbrev replacement : Tests
-  replacement = replacementTests (fieldsOf block) site
+  replacement = replacementTests site
 
   -- ---- a refusal
 
@@ -92,26 +92,21 @@ module _ (block : List ℕ) (e f : ℕ) (opens : openAnswer block ≡ 0) where
     its-site = own-site orChains block e f opens found i h a b p q
 
     -- the verdict's answers are left
-    verdict-left : attemptAnswer block e f ≡ planAnswer (fieldsOf block) site
+    verdict-left : attemptAnswer block e f ≡ planAnswer site
     unfolding attemptAnswer removalTests planAnswer
     verdict-left =
         front-passed edge (lengthTests site ++ replacement) edge-numbered (edge-one orChains block e f opens found i h)
         ∙ goes-on 13 (lengthWrong site) replacement (length-right orChains block e f opens found i h)
 
-    plan-answer : planAnswer (patchIn (coordinatesOf block) (pointCount block) (tableOf block) (rowCount block)) its
-        ≡ attemptAnswer block e f
-    unfolding fieldsOf
-    plan-answer = ap (planAnswer (fieldsOf block)) its-site ∙ sym verdict-left
+    plan-answer : planAnswer its ≡ attemptAnswer block e f
+    plan-answer = ap planAnswer its-site ∙ sym verdict-left
 
-    -- 19 and 14 to 17
-    pub plan-refuses : (n : ℕ)
-        → Number (planAnswer (patchIn (coordinatesOf block) (pointCount block) (tableOf block) (rowCount block)) its) n
-        → noOutcome n ≡ outcomeOf block e f
+    -- 19 and 14 to 16
+    pub plan-refuses : (n : ℕ) → Number (planAnswer its) n → noOutcome n ≡ outcomeOf block e f
     plan-refuses n k = refused-outcome n (record { less = k .less; answer = sym plan-answer ∙ k .answer; handed = k .handed })
 
     -- 0
-    module _ (planned : Plan) (j : planned ≡ planOf (patchIn (coordinatesOf block) (pointCount block) (tableOf block) (rowCount block)) its)
-        (k : planned .answer ≡ Answer.Done) (row : PageRow)
+    module _ (planned : Plan) (j : planned ≡ planOf its) (k : planned .answer ≡ Answer.Done) (row : PageRow)
         (row-is : row ≡ pageRow (shown (worstOfPatch (patchIn (coordinatesOf block) (pointCount block) (tableOf block) (rowCount block))))
         (shown (worstOfPatch (patchIn (coordinatesOf block) (pointCount block) (planned .rows .table) (planned .rows .n))))) where
       given-ring : Ringed (coordinatesOf block) (pointCount block) (tableOf block) (rowCount block) a b (found .closed)

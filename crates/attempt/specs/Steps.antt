@@ -16,12 +16,11 @@ use Rattle.calls.specs.Removing.{patchAfter, removalTests}
 use Rattle.replacement.specs.Steps.{rowsWith}
 use Rattle.attempt.specs.declared.Outcome.{Outcome}
 
--- answers 9 to 17 and 19, tested from the top: those of a removal in a block that opens
+-- answers 9 to 16 and 19, tested from the top: those of a removal in a block that opens
 unfoldable pub attemptAnswer : List ℕ → ℕ → ℕ → ℕ
 attemptAnswer block e f =
-    let patch = fieldsOf block in
-    let site = siteOf patch e f in
-    firstRefusal (edgeTests orChains site e f ++ removalTests patch site)
+    let site = siteOf (fieldsOf block) e f in
+    firstRefusal (edgeTests orChains site e f ++ removalTests site)
 
 -- a refusal returns its number and nothing else
 abbrev pub noRemoved : ℕ → Removed

@@ -21,7 +21,7 @@ use Rattle.answers.proofs.Refusals.{goes-on, refuses}
 use Rattle.answers.proofs.ByNumber.{unlike, testOf, passes, both-passed, front-passed}
 use Rattle.ring.specs.Ring.{Site, siteOf, m, minRing, numbersWrong, ringsAlone, orChains, linkOpen, lengthWrong, notFlat, edgeTests}
 use Rattle.ring.proofs.EdgeGoesRound.{closed-passed}
-use Rattle.calls.specs.Removing.{blockTests, noRoom, noWay, noneBetter, patchAfter, totalDiffers, removeAnswer, Sound}
+use Rattle.calls.specs.Removing.{blockTests, noRoom, noWay, noneBetter, removeAnswer, Sound}
 use Rattle.calls.specs.Removing.{removalTests}
 use Rattle.calls.specs.Flipping.{flip32Tests, flip32Answer, pairOf, patchAfter23, flip23Tests, flip23Answer}
 use Rattle.calls.proofs.HandedOn.{Number, number-handed, handed-done}
@@ -146,13 +146,12 @@ pub record Removes (block out : List ℕ) (e f : ℕ) : Type 0 where
   pub room : noRoom (siteOf (fieldsOf block) e f) ≡ false
   pub way : noWay (siteOf (fieldsOf block) e f) ≡ false
   pub better : noneBetter (siteOf (fieldsOf block) e f) ≡ false
-  pub same : totalDiffers (fieldsOf block) (patchAfter (siteOf (fieldsOf block) e f)) ≡ false
 
 pub removes : (block out : List ℕ) (e f : ℕ) → removeAnswer block out e f ≡ 0 → Removes block out e f
 unfolding removeAnswer removalTests testOf every
 removes block out e f h =
     let site = siteOf (fieldsOf block) e f in
-    let tests = removalTests (fieldsOf block) site in
+    let tests = removalTests site in
     let (sound, size, rest, closed) = reached orChains block out e f tests 0 (front-numbered orChains block out site e f) h in
     record {
       sound = sound;
@@ -162,12 +161,11 @@ removes block out e f h =
       room = passes 14 tests tt rest;
       way = passes 15 tests tt rest;
       better = passes 16 tests tt rest;
-      same = passes 17 tests tt rest;
     }
 
--- behind a sound edge and an output of the right length the answers 13 to 17 and 19 are left
+-- behind a sound edge and an output of the right length the answers 13 to 16 and 19 are left
 pub remove-left : (block out : List ℕ) (e f : ℕ) → Sound block e f → length out ≡ blockBytes
-    → removeAnswer block out e f ≡ firstRefusal (removalTests (fieldsOf block) (siteOf (fieldsOf block) e f))
+    → removeAnswer block out e f ≡ firstRefusal (removalTests (siteOf (fieldsOf block) e f))
 unfolding removeAnswer
 remove-left block out e f sound size = left orChains block out e f _ (sound .opens) (sound .one) size
 

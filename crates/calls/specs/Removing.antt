@@ -8,10 +8,9 @@ use mathlib.Core.Path.{_≡_}
 use lib.Dec.{ltb}
 use Rattle.lists.specs.Lists.{every, any}
 use Rattle.quality.specs.declared.Quality.{Quality}
-use Rattle.volume.specs.Volume.{sameZ}
 use Rattle.quality.specs.Quality.{worst, worse, zeroQuality}
 use Rattle.page.specs.Page.{shown, pageRow}
-use Rattle.rows.specs.RowMeasure.{rowQuality, totalD}
+use Rattle.rows.specs.RowMeasure.{rowQuality}
 use Rattle.layout.specs.Layout.{Patch, maxRows, fieldsOf, bytesOf}
 use Rattle.answers.specs.Answers.{Tests, firstRefusal, written}
 use Rattle.block.specs.Opening.{notBlock, openAnswer}
@@ -52,31 +51,25 @@ noneBetter site = every (λ t. not (worse (worstNow site) (worstOfWay site 1 t))
 unfoldable pub patchAfter : Site → Patch
 patchAfter site = record { points = site .points; rows = tableAfter site (chosen site) }
 
--- 17: total D before and after differ
-unfoldable pub totalDiffers : Patch → Patch → Bool
-totalDiffers before after = not (sameZ (totalD (before .points) (before .rows)) (totalD (after .points) (after .rows)))
-
--- answers 19 and 14 to 17 of a removal: whether the ring or chain is replaced
-abbrev pub replacementTests : Patch → Site → Tests
-replacementTests patch site =
+-- answers 19 and 14 to 16 of a removal: whether the ring or chain is replaced
+abbrev pub replacementTests : Site → Tests
+replacementTests site =
     (19, notFlat site)
     ∷ (14, noRoom site)
     ∷ (15, noWay site)
-    ∷ (16, noneBetter site)
-    ∷ (17, totalDiffers patch (patchAfter site)) ∷ []
+    ∷ (16, noneBetter site) ∷ []
 
--- answers 13 to 17 of a removal, and 19 directly after 13
-unfoldable pub removalTests : Patch → Site → Tests
-removalTests patch site = lengthTests site ++ replacementTests patch site
+-- answers 13 to 16 of a removal, and 19 directly after 13
+unfoldable pub removalTests : Site → Tests
+removalTests site = lengthTests site ++ replacementTests site
 
 -- ---- the removal of edge e f
 
 -- numbered answers, tested from the top
 unfoldable pub removeAnswer : List ℕ → List ℕ → ℕ → ℕ → ℕ
 removeAnswer block out e f =
-    let patch = fieldsOf block in
-    let site = siteOf patch e f in
-    firstRefusal (blockTests block out ++ edgeTests orChains site e f ++ removalTests patch site)
+    let site = siteOf (fieldsOf block) e f in
+    firstRefusal (blockTests block out ++ edgeTests orChains site e f ++ removalTests site)
 
 -- each byte of the output block afterwards
 unfoldable pub removeBytes : List ℕ → List ℕ → ℕ → ℕ → List ℕ

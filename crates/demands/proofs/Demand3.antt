@@ -1,8 +1,8 @@
--- Demand 3. Of the answers 16 and 17 alone are left under its premises; 17 never comes, since the total D stays; 16 is given exactly when
--- each tree has a row no better than now; and the chosen tree is the best. What is so of trees is so of all that cuts the ring.
+-- Demand 3. Of the answers 16 alone is left under its premises. It is given exactly when each tree has a row no better than now; and the
+-- chosen tree is the best. What is so of trees is so of all that cuts the ring.
 use Prim.Native.Nat.{ℕ, _-_, _≤_}
 use mathlib.Core.Bool.{Bool, false, not}
-use mathlib.Core.List.{List, [], _++_}
+use mathlib.Core.List.{List}
 use mathlib.Core.Logic.{_↔_}
 use mathlib.Core.Path.{_≡_, sym, ap, _∙_, subst}
 use native.Mathlib.Omega.{arith}
@@ -15,19 +15,16 @@ use Rattle.quality.proofs.QualityOrder.{_⊑_, at-most-self, at-most-trans}
 use Rattle.rows.specs.RowMeasure.{rowQuality}
 use Rattle.layout.specs.Layout.{Patch, fieldsOf}
 use Rattle.answers.specs.Answers.{Tests, firstRefusal}
-use Rattle.body.specs.Body.{bodyTests}
-use Rattle.answers.proofs.Refusals.{goes-on}
-use Rattle.answers.proofs.ByNumber.{testOf, before, unlike, passes}
-use Rattle.ring.specs.Ring.{Site, siteOf, m, orChains, notFlat, edgeTests}
-use Rattle.triangulation.specs.Triangulation.{Tri, span, triangles, tableAfter}
+use Rattle.answers.proofs.ByNumber.{testOf, before}
+use Rattle.ring.specs.Ring.{Site, siteOf, m}
+use Rattle.triangulation.specs.Triangulation.{Tri, triangles, tableAfter}
 use Rattle.triangulation.specs.Best.{worstOfWay, ringWays, chosen}
 use Rattle.triangulation.proofs.WorstOfWays.{row-fraction, worst-over}
 use Rattle.triangulation.proofs.WholeRing.{RingWay, BestWay, way-listed, listed-way, worst-row}
-use Rattle.calls.specs.Removing.{blockTests, worstNow, noWay, noneBetter, patchAfter, totalDiffers, removalTests, removeAnswer, removeBytes}
+use Rattle.calls.specs.Removing.{worstNow, noWay, noneBetter, patchAfter, removalTests, removeAnswer, removeBytes}
 use Rattle.calls.specs.Removing.{Sound}
-use Rattle.calls.proofs.CallTests.{reached}
-use Rattle.tables.proofs.RingReplaced.{way-found, way-there, length-fits}
-use Rattle.accepted.proofs.ChosenWay.{total-stays, site-chosen, some-way}
+use Rattle.tables.proofs.RingReplaced.{way-there}
+use Rattle.accepted.proofs.ChosenWay.{site-chosen, some-way}
 use Rattle.accepted.proofs.AfterRemoval.{fields-after}
 use Rattle.demands.specs.Kernels.{ours}
 use Rattle.demands.specs.TriangleSets.{tableBy, NoneBetter}
@@ -35,30 +32,8 @@ use Rattle.demands.specs.Premises.{edgeAt, Premises}
 use Rattle.demands.specs.Demands.{Demand3}
 use Rattle.demands.proofs.Demand1.{numbered}
 use Rattle.demands.proofs.WaysAndTrees.{NoTreeBetter, tree-way, way-tree, tree-table, none-better, best-of}
-use Rattle.answers.proofs.ToldByNumber.{past, once, told, exactly, goes-past}
+use Rattle.answers.proofs.ToldByNumber.{past, once, exactly, goes-past}
 use Rattle.demands.proofs.EdgeFound.{sited, ringed-sound, left, length-right, ringed-flat, ringed-room}
-
--- ---- 17 never occurs
-
-front-not-17 : (block out : List ℕ) (site : Site) (e f : ℕ) → T (unlike 17 (blockTests block out ++ edgeTests orChains site e f))
-unfolding blockTests bodyTests edgeTests every
-front-not-17 block out site e f = tt
-
--- the total of a ring or of a flat chain cancels, so the guard is never met
-pub never-17 : (block out : List ℕ) (e f : ℕ) → removeAnswer block out e f ≡ 17 → ⊥
-unfolding removeAnswer removalTests patchAfter once before testOf every
-never-17 block out e f h =
-    let site = siteOf (fieldsOf block) e f in
-    let (sound, size, rest, closed) =
-    reached orChains block out e f (removalTests (fieldsOf block) site) 17 (front-not-17 block out site e f) h in
-    let all = removalTests (fieldsOf block) site in
-    let (front, differs) = told 17 all tt tt rest in
-    let first = before 17 all in
-    let three = length-fits site (passes 13 first tt front) .0 in
-    let (t, w) = way-found site three (passes 15 first tt front) in
-    let best = site-chosen block e f sound three t w in
-    let stays = total-stays block e f sound (passes 19 first tt front) (chosen site) (best .way .spans) in
-    subst T (sym differs ∙ stays) tt
 
 -- ---- none better
 
@@ -112,15 +87,8 @@ module _ (block out : List ℕ) (e f : ℕ) (closed : Bool) (vs : List ℕ) (giv
       let (t, w) = some-tree in
       way-there its three t w
 
-  not-17 : totalDiffers (fieldsOf block) (patchAfter its) ≡ false
-  unfolding patchAfter
-  not-17 =
-      subst (λ (s : Site). notFlat s ≡ false → (t : Tri) → span t ≡ m s - 1
-      → totalDiffers (fieldsOf block) (record { points = s .points; rows = tableAfter s t }) ≡ false)
-      is (total-stays block e f sound) (ringed-flat block out e f closed vs (given .ringed) (given .flat)) (chosen its) (best .way .spans)
-
   abbrev tests : Tests
-  tests = removalTests (fieldsOf block) its
+  tests = removalTests its
 
   left-one : removeAnswer block out e f ≡ firstRefusal tests
   left-one = left block out e f closed vs (given .ringed)
@@ -152,7 +120,6 @@ module _ (block out : List ℕ) (e f : ℕ) (closed : Bool) (vs : List ℕ) (giv
       let (to, from) = none-better its (omega (arith, three)) in
       left-one
       ∙ goes-past 16 tests tt front-16 (no-is (noneBetter its) (not-T (noneBetter its) (λ k. h (from (none→ its three k)))))
-      ∙ goes-on 17 (totalDiffers (fieldsOf block) (patchAfter its)) [] not-17
 
   rows-written : removeAnswer block out e f ≡ 0 → fieldsOf (removeBytes block out e f) .rows ≡ tableBy its (triangles 1 (chosen its))
   unfolding patchAfter

@@ -132,18 +132,18 @@ module _ (block out : List ℕ) (e f : ℕ) (closed : Bool) (vs : List ℕ) (giv
   ringed-sound = site-sound block e f (given .right) closed vs (given .round) some-pair
 
   abbrev pub tests : Tests
-  tests = removalTests (fieldsOf block) ringed
+  tests = removalTests ringed
 
-  -- 13 to 17 and 19 are left
+  -- 13 to 16 and 19 are left
   pub left : removeAnswer block out e f ≡ firstRefusal tests
   left =
       remove-left block out e f ringed-sound (given .right-length)
-      ∙ ap (λ (site : Site). firstRefusal (removalTests (fieldsOf block) site)) sited
+      ∙ ap (λ (site : Site). firstRefusal (removalTests site)) sited
 
   pub length-right : lengthWrong ringed ≡ false
   length-right = length-passes ringed (given .from-three) (given .to-ten)
 
-  passes-13 : T (has (0 ∷ 19 ∷ 14 ∷ 15 ∷ 16 ∷ 17 ∷ []) (removeAnswer block out e f))
+  passes-13 : T (has (0 ∷ 19 ∷ 14 ∷ 15 ∷ 16 ∷ []) (removeAnswer block out e f))
   unfolding removalTests before past testOf firstRefusal every
   passes-13 = rw (left ∙ goes-past 13 tests tt refl length-right) (on-list (past 13 tests))
 
@@ -160,7 +160,7 @@ module _ (block out : List ℕ) (e f : ℕ) (closed : Bool) (vs : List ℕ) (giv
         go true h = refl
         go false h = rw (h refl)
 
-    passes-19 : T (has (0 ∷ 14 ∷ 15 ∷ 16 ∷ 17 ∷ []) (removeAnswer block out e f))
+    passes-19 : T (has (0 ∷ 14 ∷ 15 ∷ 16 ∷ []) (removeAnswer block out e f))
     unfolding removalTests past testOf every
     passes-19 = rw (left ∙ goes-past 19 tests tt front-19 ringed-flat) (on-list (past 19 tests))
 
@@ -178,7 +178,7 @@ module _ (block out : List ℕ) (e f : ℕ) (closed : Bool) (vs : List ℕ) (giv
       pub ringed-room : noRoom ringed ≡ false
       ringed-room = le-ltb maxRows (rowsAfter ringed) (omega (arith, after-is))
 
-      passes-14 : T (has (0 ∷ 15 ∷ 16 ∷ 17 ∷ []) (removeAnswer block out e f))
+      passes-14 : T (has (0 ∷ 15 ∷ 16 ∷ []) (removeAnswer block out e f))
       unfolding removalTests past testOf every
       passes-14 = rw (left ∙ goes-past 14 tests tt front-14 ringed-room) (on-list (past 14 tests))
 

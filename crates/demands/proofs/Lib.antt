@@ -6,6 +6,7 @@ pub mod FrontTests
 pub mod EdgeFound
 pub mod PremisesMet
 pub mod WaysAndTrees
+pub mod TotalFromRing
 pub mod RingWords
 pub mod RemovalWords
 pub mod RoomByLength

@@ -39,19 +39,19 @@ use Rattle.demands.proofs.RingWords.{tells-11, tells-12, tells-13}
 module _ (block out : List ℕ) (e f : ℕ) (right : RightBlock block) (size : length out ≡ blockBytes) where
   removal-tells-9 : (removeAnswer block out e f ≡ 9) ↔ (TwoPoints block e f → ⊥)
   unfolding removeAnswer removalTests every
-  removal-tells-9 = tells-9 orChains block out e f (removalTests (fieldsOf block) (siteOf (fieldsOf block) e f)) tt right size tt
+  removal-tells-9 = tells-9 orChains block out e f (removalTests (siteOf (fieldsOf block) e f)) tt right size tt
 
   removal-tells-10 : TwoPoints block e f
       → (removeAnswer block out e f ≡ 10) ↔ T (not (any (holdsEdge (min e f) (max e f)) (fieldsOf block .rows)))
   unfolding removeAnswer removalTests every
-  removal-tells-10 = tells-10 orChains block out e f (removalTests (fieldsOf block) (siteOf (fieldsOf block) e f)) tt right size tt
+  removal-tells-10 = tells-10 orChains block out e f (removalTests (siteOf (fieldsOf block) e f)) tt right size tt
 
 removal-tells-12 : (block out : List ℕ) (e f : ℕ) → Held block out e f
     → let rows = fieldsOf block .rows in
     (removeAnswer block out e f ≡ 12) ↔ (AllClose rows (min e f) (max e f) × TwoCircles rows (min e f) (max e f))
 unfolding removeAnswer removalTests every
 removal-tells-12 block out e f held =
-    tells-12 block out e f held orChains (removalTests (fieldsOf block) (siteOf (fieldsOf block) e f)) tt tt
+    tells-12 block out e f held orChains (removalTests (siteOf (fieldsOf block) e f)) tt tt
 
 -- ---- 19, 14 and 15
 
@@ -63,7 +63,7 @@ module _ (block out : List ℕ) (e f : ℕ) (closed : Bool) (vs : List ℕ) (giv
   ringed = edgeAt patch e f closed vs
 
   abbrev theirs : Tests
-  theirs = removalTests patch ringed
+  theirs = removalTests ringed
 
   is : removeAnswer block out e f ≡ firstRefusal theirs
   is = left block out e f closed vs given
@@ -133,8 +133,8 @@ module _ (block out : List ℕ) (e f : ℕ) where
   unfolding removeAnswer removalTests once before testOf every
   passed-16 h =
       let (sound, size, rest, closed) =
-      reached orChains block out e f (removalTests (fieldsOf block) its) 16 front-not-16 h in
-      let all = removalTests (fieldsOf block) its in
+      reached orChains block out e f (removalTests its) 16 front-not-16 h in
+      let all = removalTests its in
       let front = told 16 all tt tt rest .0 in
       let first = before 16 all in
       premises-when sound size (passes 13 first tt front) (passes 19 first tt front) (passes 14 first tt front) (passes 15 first tt front)

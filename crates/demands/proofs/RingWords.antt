@@ -74,11 +74,11 @@ module _ (block out : List ℕ) (e f : ℕ) (held : Held block out e f) where
   some-its = in-length its (some-held .1)
 
   abbrev theirs : Tests
-  theirs = edgeTests orChains site e f ++ removalTests patch site
+  theirs = edgeTests orChains site e f ++ removalTests site
 
   is : removeAnswer block out e f ≡ firstRefusal theirs
   unfolding removeAnswer
-  is = held-left orChains block out e f (removalTests patch site) held
+  is = held-left orChains block out e f (removalTests site) held
 
   -- the ring or the chain, by whether the links close, and whether all lie on it
   abbrev ringBy : Bool → List ℕ
@@ -126,7 +126,7 @@ module _ (block out : List ℕ) (e f : ℕ) (held : Held block out e f) where
       ↔ ((AllClose (patch .rows) low high → ⊥) × (OneChain (patch .rows) low high → ⊥))
   unfolding edgeTests removalTests once testOf every
   tells-11 =
-      let (to, from) = exactly 11 theirs tt tt tt is (front-11 orChains block out e f (removalTests patch site) held) in (
+      let (to, from) = exactly 11 theirs tt tt tt is (front-11 orChains block out e f (removalTests site) held) in (
         λ h. (
           λ all. let q = →close all in yes-no (sym (to h) ∙ open-is orChains ∙ ap (λ c. openTest orChains c (allOn c)) q),
           λ (vs, round). yes-no (sym (to h) ∙ passed-11 false vs round),

@@ -1,21 +1,23 @@
 -- What is said of every set of triangles that cuts the ring, and what is said of every tree, is one: such a set is the triangles of one
--- tree in another order, and neither the mesh rule nor the worst of the rows knows an order.
+-- tree in another order, and neither the mesh rule nor the worst of the rows nor their total D knows an order.
 use Prim.Native.Nat.{_+_, _-_, _≤_}
 use mathlib.Core.Bool.{Bool, not}
 use mathlib.Core.List.{List, [], _∷_, map, flatMap, List·Memᴰ}
 use mathlib.Core.Logic.{_↔_}
 use mathlib.Core.Option.{some}
-use mathlib.Core.Path.{_≡_, refl, sym, _∙_, subst}
+use mathlib.Core.Path.{_≡_, refl, sym, ap, _∙_, subst}
 use native.Mathlib.Omega.{arith}
 use lib.Dec.{T}
+use lib.IntN.{ℤ, _+ℤ_, +ℤ-assoc}
 use lib.ListN.{length}
 use Rattle.lists.specs.Lists.{those, count}
 use Rattle.lists.proofs.Counts.{count-cons}
 use Rattle.lists.proofs.Images.{flatMap-i, flatMap-e}
+use Rattle.lists.proofs.Sums.{Single, sumOver, sum-same}
 use Rattle.quality.specs.Quality.{worse, asGood, worst}
 use Rattle.quality.proofs.QualityOrder.{_⊑_, at-most-self, at-most-trans, as-good}
 use Rattle.rows.specs.declared.Row.{Row}
-use Rattle.rows.specs.RowMeasure.{rowQuality}
+use Rattle.rows.specs.RowMeasure.{rowD, rowQuality, totalD}
 use Rattle.mesh.specs.Mesh.{keepsMeshRule}
 use Rattle.rows.specs.Tetrahedra.{rearranged, SameTetrahedra}
 use Rattle.mesh.proofs.TablesAlike.{same-keeps, same-append}
@@ -24,11 +26,13 @@ use Rattle.triangulation.specs.Triangulation.{Tri, span, Triangle, triangles, t
 use Rattle.triangulation.specs.Admissible.{admissible}
 use Rattle.triangulation.specs.Best.{worstOfWay}
 use Rattle.triangulation.proofs.Trees.{aRow, bRow}
+use Rattle.triangulation.proofs.TotalOfPiece.{total-append}
 use Rattle.triangulation.proofs.WholeRing.{RingWay}
 use Rattle.triangulation.proofs.WorstOfWays.{Over, rows-over, over-rows, way-fraction}
-use Rattle.polygon.specs.Polygon.{Alike}
+use Rattle.polygon.specs.Polygon.{cuts, Alike}
 use Rattle.polygon.proofs.SameTriangles.{alike→, alike-length, alike-in}
-use Rattle.polygon.proofs.CutsAreTrees.{tree-of, cuts-by}
+use Rattle.polygon.proofs.Apart.{apart-single}
+use Rattle.polygon.proofs.CutsAreTrees.{cuts-apart, tree-of, cuts-by}
 use Rattle.polygon.proofs.OneTree.{same-tree}
 use Rattle.calls.specs.Removing.{worstNow}
 use Rattle.demands.specs.TriangleSets.{rowsOf, tableBy, Way, worstBy, NoneBetter, AsGoodAsAny}
@@ -115,6 +119,30 @@ module _ (site : Site) where
   pub worst-alike : (ts us : List Triangle) → Alike ts us → T (asGood (worstBy site ts) (worstBy site us))
   worst-alike ts us a = as-good (record { up = alike-low ts us a; down = alike-low us ts (λ x. sym (a x)) })
 
+  -- ---- the total D
+
+  -- D of a triangle's two rows
+  abbrev bothD : Triangle → ℤ
+  bothD x = rowD (site .points) (a-row x) +ℤ rowD (site .points) (b-row x)
+
+  rows-total : (ts : List Triangle) → totalD (site .points) (rowsOf site ts) ≡ sumOver bothD ts
+  unfolding totalD twoRows flatMap
+  rows-total [] = refl
+  rows-total (x ∷ ts) =
+      let a = rowD (site .points) (a-row x) in
+      let b = rowD (site .points) (b-row x) in
+      ap (λ z. a +ℤ (b +ℤ z)) (rows-total ts) ∙ sym (+ℤ-assoc a b (sumOver bothD ts))
+
+  -- triangles that stand once each make the total of the same triangles in another order
+  table-total : (ts us : List Triangle) → Single ts → Alike ts us
+      → totalD (site .points) (tableBy site ts) ≡ totalD (site .points) (tableBy site us)
+  table-total ts us single alike =
+      let kept = totalD (site .points) (site .kept) in
+      let same = sum-same bothD us ts (omega (arith, alike-length ts us alike)) single (λ x. alike-in ts us alike) in
+      total-append (site .points) (site .kept) (rowsOf site ts)
+      ∙ ap (λ z. kept +ℤ z) (rows-total ts ∙ sym same ∙ sym (rows-total us))
+      ∙ sym (total-append (site .points) (site .kept) (rowsOf site us))
+
   -- ---- a tree's triangles
 
   pub tree-rows : (t : Tri) → rowsOf site (triangles 1 t) ≡ newRows site 1 t
@@ -138,6 +166,14 @@ module _ (site : Site) where
   module _ (two : 2 ≤ m site) where
     pub tree-way : (t : Tri) → RingWay site t → Way site (triangles 1 t)
     tree-way t w = (cuts-by (m site) (triangles 1 t) two t (w .spans) (λ x. refl), subst T (sym (tree-rule t)) (w .keeps))
+
+    -- whatever cuts the ring makes the total of a tree
+    pub total-tree : (ts : List Triangle) → T (cuts (m site) ts)
+        → (t : Tri) × (span t ≡ m site - 1) × (totalD (site .points) (tableBy site ts) ≡ totalD (site .points) (tableAfter site t))
+    total-tree ts h =
+        let (t, spans, alike) = tree-of (m site) ts two h in
+        let single = apart-single ts (cuts-apart (m site) ts h) in
+        (t, spans, table-total ts (triangles 1 t) single alike ∙ ap (totalD (site .points)) (tree-table t))
 
     -- of one tree, and of no other
     pub way-tree : (ts : List Triangle) → Way site ts

@@ -143,7 +143,7 @@ pub record Demand2 (k : Kernel) : Type 0 where
 -- ---- Demand 3
 -- Under the premises, of a ring and of a flat chain alike: a removal answers 16 exactly if, whichever way it is cut, some new tetrahedron is
 -- no better than the worst of those that go. If not, the removal is done, and no way beats the one carried out by its worst new tetrahedron.
--- Tetrahedra are compared by their exact fractions. (17 is tested between the two and never comes: the volumes cancel.)
+-- Tetrahedra are compared by their exact fractions.
 
 -- One call of a removal under the premises, with its edge in its patch.
 pub record Best (k : Kernel) (block out : List ℕ) (e f : ℕ) (site : Site) : Type 0 where

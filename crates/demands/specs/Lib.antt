@@ -1,6 +1,7 @@
 pub mod Kernels
 pub mod TriangleSets
 pub mod Premises
+pub mod RingTotals
 pub mod Words
 pub mod Orders
 pub mod FlipWords

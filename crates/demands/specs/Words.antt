@@ -24,11 +24,11 @@ Only16 k =
 -- What is left for an edge in one ring or one chain of 3 to 10: none of 1 to 13; if it is flat nor 19; with room nor 14.
 pub record Passes (k : Kernel) : Type 0 where
   pub by-13 : (block out : List ℕ) (e f : ℕ) (closed : Bool) (vs : List ℕ) → Ringed block out e f closed vs
-      → T (has (0 ∷ 19 ∷ 14 ∷ 15 ∷ 16 ∷ 17 ∷ []) (removes k block out e f))
+      → T (has (0 ∷ 19 ∷ 14 ∷ 15 ∷ 16 ∷ []) (removes k block out e f))
   pub by-19 : (block out : List ℕ) (e f : ℕ) (closed : Bool) (vs : List ℕ) → Ringed block out e f closed vs
-      → FlatChain block e f closed vs → T (has (0 ∷ 14 ∷ 15 ∷ 16 ∷ 17 ∷ []) (removes k block out e f))
+      → FlatChain block e f closed vs → T (has (0 ∷ 14 ∷ 15 ∷ 16 ∷ []) (removes k block out e f))
   pub by-14 : (block out : List ℕ) (e f : ℕ) (closed : Bool) (vs : List ℕ) → Ringed block out e f closed vs
-      → FlatChain block e f closed vs → HasRoom block closed vs → T (has (0 ∷ 15 ∷ 16 ∷ 17 ∷ []) (removes k block out e f))
+      → FlatChain block e f closed vs → HasRoom block closed vs → T (has (0 ∷ 15 ∷ 16 ∷ []) (removes k block out e f))
 
 -- Each is given exactly when its words are true of the block, where those before it are not: 9 and 10; 11, 12 and 13, where some row
 -- holds the edge; 19, 14 and 15 of one ring or chain of 3 to 10.

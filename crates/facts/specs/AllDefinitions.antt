@@ -24,7 +24,7 @@ use Rattle.triangulation.specs.Triangulation.{span, triangles, closingSides, di
 use Rattle.triangulation.specs.Admissible.{admissible, pieceAdmissible}
 use Rattle.triangulation.specs.Best.{worstOfWay, ringWays, pieceWays, bestWorst, reaches, apex, chosenWithin}
 use Rattle.summary.specs.Summary.{summaryOf}
-use Rattle.calls.specs.Removing.{blockTests, worstNow, noWay, noneBetter, patchAfter, totalDiffers, removalTests}
+use Rattle.calls.specs.Removing.{blockTests, worstNow, noWay, noneBetter, patchAfter, removalTests}
 use Rattle.calls.specs.Removing.{removeAnswer, removeBytes}
 use Rattle.calls.specs.Flipping.{flip32Tests, flip32Answer, apexOver, pairOf, threeRows, patchAfter23}
 use Rattle.calls.specs.Flipping.{flip23Tests, flip23Answer, flip23Bytes}
@@ -49,7 +49,7 @@ unfolding
     admissible pieceAdmissible
     worstOfWay ringWays pieceWays bestWorst reaches apex chosenWithin
     summaryOf
-    blockTests worstNow noWay noneBetter patchAfter totalDiffers removalTests removeAnswer removeBytes
+    blockTests worstNow noWay noneBetter patchAfter removalTests removeAnswer removeBytes
     flip32Tests flip32Answer apexOver pairOf threeRows patchAfter23 flip23Tests flip23Answer flip23Bytes
     text decimalWithin spaced lineEnd ended line mark summaryFields report printout
 definitions = tt

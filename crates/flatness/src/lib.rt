@@ -11,16 +11,6 @@ ghost use Rattle.flatness.specs.Steps.{Crossed, across};
 use ring::Ring;
 use rows::Row;
 
-// Two whole numbers differ.
-pub fn differ(x: i64, y: i64) -> bool
-    ensures { λ r. ⌜ r ≡ not (sameZ x y) ⌝ }
-{
-    if x < y {
-        return true;
-    }
-    y < x
-}
-
 // The chain is not flat: it is open, and D(a,b,v1,vm) is not 0.
 pub fn not_flat(coordinates: &[u8], count: usize, a: u8, b: u8, closed: bool, ring: Ring) -> bool
     requires { ⌜ Crossed (now coordinates) count a b ring ⌝ }
@@ -38,7 +28,10 @@ pub fn not_flat(coordinates: &[u8], count: usize, a: u8, b: u8, closed: bool, ri
         region: 0,
     };
     let d = tally::row_volume(coordinates, count, outer);
-    differ(d, 0)
+    if d < 0 {
+        return true;
+    }
+    0 < d
 }
 
 // How many rows go: one for each point of a ring, and one fewer for a chain.

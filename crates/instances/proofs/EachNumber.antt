@@ -1,13 +1,13 @@
 -- Each number on a call's list comes: the tables are computed, and each number of a list stands in its table.
 use Prim.Native.Nat.{ℕ}
-use mathlib.Core.Bool.{Bool, not, _&&_}
+use mathlib.Core.Bool.{Bool, _&&_}
 use mathlib.Core.List.{List, _++_, map, Memᴰ·of-map}
 use mathlib.Core.Path.{_≡_, _∙_}
-use lib.Dec.{T, eqb, eqb→eq, not-T}
-use Rattle.lists.specs.Lists.{every, any, those, has}
+use lib.Dec.{T, eqb, eqb→eq}
+use Rattle.lists.specs.Lists.{every, any, has}
 use Rattle.lists.proofs.Tests.{and-l, and-r}
-use Rattle.lists.proofs.Lists.{every-at, those-i}
-use Rattle.lists.proofs.Numbers.{has-i, has-e}
+use Rattle.lists.proofs.Lists.{every-at}
+use Rattle.lists.proofs.Numbers.{has-e}
 use Rattle.layout.specs.Within.{isByte}
 use Rattle.block.specs.Opening.{openAnswer, sealAnswer}
 use Rattle.display.specs.Display.{shownAnswer}
@@ -83,12 +83,8 @@ unfolding
     definitions
 remove-get = tt
 
--- but for 17
-abbrev but17 : List ℕ
-but17 = those (λ n. not (eqb n 17)) removeNumbers
-
-remove-all : T (every (has (map (λ case. case .0) (edgeCases ++ removeCases))) but17)
-unfolding wrongBlocks openCases edgeCases removeCases every any those
+remove-all : T (every (has (map (λ case. case .0) (edgeCases ++ removeCases))) removeNumbers)
+unfolding wrongBlocks openCases edgeCases removeCases every any
 remove-all = tt
 
 abbrev flipped32 : Edge → ℕ
@@ -123,10 +119,8 @@ numbers-come = record {
   summary = comes (λ block. block) summarised openCases openNumbers summary-get open-all;
   shown = comes (λ block. block) (λ block. shownAnswer block noneShown) openCases openNumbers shown-get open-all;
   sealing = comes (λ body. body) (λ body. sealAnswer body blank) sealCases sealNumbers seal-get seal-all;
-  removal = λ n h other.
-      let not17 = not-T (eqb n 17) (λ t. other (eqb→eq n 17 t)) in
-      let listed = has-i but17 (those-i (λ k. not (eqb k 17)) removeNumbers (has-e removeNumbers n h) not17) in
-      let (edge, bytes, e) = comes (λ (edge : Edge). edge .0) removed (edgeCases ++ removeCases) but17 remove-get remove-all n listed in
+  removal = λ n h.
+      let (edge, bytes, e) = comes (λ (edge : Edge). edge .0) removed (edgeCases ++ removeCases) removeNumbers remove-get remove-all n h in
       (edge .0, edge .1, edge .2, bytes, e);
   flip32 = λ n h.
       let (edge, bytes, e) = comes (λ (edge : Edge). edge .0) flipped32 (edgeCases ++ flip32Cases) flip32Numbers flip32-get flip32-all n h in

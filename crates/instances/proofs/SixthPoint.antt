@@ -23,7 +23,7 @@ use Rattle.instances.specs.SixthPoint.{sixthAt, AnyPlace}
 
 -- the tests behind 8
 abbrev behind8 : Patch → ℕ → ℕ → Tests
-behind8 patch e f = let site = siteOf patch e f in edgeTests orChains site e f ++ removalTests patch site
+behind8 patch e f = let site = siteOf patch e f in edgeTests orChains site e f ++ removalTests site
 
 -- the answer of a patch that a block may hold
 answer-of : (patch : Patch) → Holdable patch → (e f : ℕ) → answer patch e f ≡ firstRefusal (behind8 patch e f)
@@ -32,7 +32,7 @@ answer-of patch kept e f =
     let block = bytesOf patch in
     let its = fieldsOf block in
     let site = siteOf its e f in
-    ap firstRefusal (append-assoc (blockTests block blank) (edgeTests orChains site e f) (removalTests its site))
+    ap firstRefusal (append-assoc (blockTests block blank) (edgeTests orChains site e f) (removalTests site))
     ∙ block-opened block blank (behind8 its e f) (opens-written patch kept)
     ∙ goes-on 1 (notBlock blank) (behind8 its e f) refl
     ∙ ap (λ of. firstRefusal (behind8 of e f)) (read-written patch (kept .within))

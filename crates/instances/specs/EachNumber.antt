@@ -1,5 +1,5 @@
--- The lists of numbers are exact: no other number comes, which is demand 1, and each number on a call's list does come, but for 17: there is
--- an input for each. (17 never comes: the law `never-17`.)
+-- The lists of numbers are exact: no other number comes, which is demand 1, and each number on a call's list does come: there is an input
+-- for each.
 use Prim.Native.Nat.{ℕ}
 use mathlib.Core.List.{List}
 use mathlib.Core.Path.{_≡_}
@@ -27,7 +27,7 @@ pub record NumbersCome : Type 0 where
   pub summary : (n : ℕ) → T (has openNumbers n) → (block : List ℕ) × T (every isByte block) × (summaryNumber (summaryGives block) ≡ n)
   pub shown : (n : ℕ) → T (has openNumbers n) → (block : List ℕ) × T (every isByte block) × (shownAnswer block noneShown ≡ n)
   pub sealing : (n : ℕ) → T (has sealNumbers n) → (body : List ℕ) × T (every isByte body) × (sealAnswer body blank ≡ n)
-  pub removal : (n : ℕ) → T (has removeNumbers n) → (n ≡ 17 → ⊥)
+  pub removal : (n : ℕ) → T (has removeNumbers n)
       → (block : List ℕ) × (e f : ℕ) × T (every isByte block) × (removeAnswer block blank e f ≡ n)
   pub flip32 : (n : ℕ) → T (has flip32Numbers n)
       → (block : List ℕ) × (e f : ℕ) × T (every isByte block) × (flip32Answer block blank e f ≡ n)

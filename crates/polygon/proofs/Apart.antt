@@ -15,6 +15,7 @@ use Rattle.lists.proofs.Tests.{and-l, and-r, and-i, or-l, or-r, or-e}
 use Rattle.lists.proofs.Places.{in-cases}
 use Rattle.lists.proofs.Lists.{any-i, any-e, none-passes, those-e}
 use Rattle.lists.proofs.Counts.{ind, ind-yes, count-cons}
+use Rattle.lists.proofs.Sums.{Single, none, one-more}
 use Rattle.triangulation.proofs.TreesTriangulate.{InPiece}
 use Rattle.polygon.proofs.SameTriangles.{same→, →same, same-self, nothing, some-in, is-in}
 
@@ -330,3 +331,13 @@ parted-by (x ∷ xs) d f = (
         let again : 1 ≤ count (sameTriangle x) xs = rw e (is-in xs m) in
         absurd (omega (arith, count-cons (sameTriangle x) x xs, ind-yes (sameTriangle x x) (same-self x)))
     go y m (inr a) = a
+
+-- triangles of which none overlaps another stand once each
+pub apart-single : (ts : List Triangle) → T (apart ts) → Single ts
+unfolding apart overlap
+apart-single [] h = none
+apart-single (x ∷ xs) h =
+    one-more
+    (λ m. T-not (any (overlap x) xs) (and-l (not (any (overlap x) xs)) (apart xs) h)
+    (any-i (overlap x) xs m (or-l (sameTriangle x x) _ (same-self x))))
+    (apart-single xs (and-r (not (any (overlap x) xs)) (apart xs) h))

@@ -54,6 +54,10 @@ module _ (m : ℕ) (ts : List Triangle) where
       let inside : Inside 1 m ts = λ x n. within→ 1 m x (every-at (within 1 m) ts places n) in
       (eqb→eq _ _ size, inside, apart→ ts (proper inside) free)
 
+  pub cuts-apart : T (cuts m ts) → T (apart ts)
+  unfolding cuts
+  cuts-apart h = search (and-l, and-r)
+
   pub →cuts : length ts ≡ m - 2 → Inside 1 m ts → Parted ts → T (cuts m ts)
   unfolding cuts
   →cuts size inside parted =

@@ -40,12 +40,12 @@ module _ (block out : List ℕ) (e f : ℕ) where
   after = tableAfter site (chosen site)
 
   abbrev behind : Tests
-  behind = edgeTests orChains site e f ++ removalTests (fieldsOf block) site
+  behind = edgeTests orChains site e f ++ removalTests site
 
   -- the lengths and the opening, then the attempt
   in-stages : removeAnswer block out e f ≡ firstRefusal (blockTests block out ++ behind)
   unfolding removeAnswer
-  in-stages = ap firstRefusal (append-assoc (blockTests block out) (edgeTests orChains site e f) (removalTests (fieldsOf block) site))
+  in-stages = ap firstRefusal (append-assoc (blockTests block out) (edgeTests orChains site e f) (removalTests site))
 
   by-answer : removeGives block out e f ≡ removedWith (removeAnswer block out e f) (fieldsOf block) site
   unfolding removeGives removedWith

@@ -3,13 +3,12 @@
 -- So a removal and a 3-2 flip of both have the same tests.
 use Prim.Native.Nat.{ℕ, _-_, _≤_, min, max}
 use mathlib.Core.Bool.{Bool, true, false, not, _&&_, _||_}
-use mathlib.Core.List.{List, [], _∷_, _++_, map, Memᴰ·map, Memᴰ·of-map}
+use mathlib.Core.List.{List, [], _∷_, map, Memᴰ·map, Memᴰ·of-map}
 use mathlib.Core.Path.{_≡_, refl, sym, ap, _∙_, subst}
 use native.Mathlib.Omega.{arith}
 use borrow.Author.Tests.{eqb-true}
 use lib.Dec.{T, eqb, ltb}
 use lib.ListN.{length}
-use Rattle.lists.specs.Lists.{every}
 use Rattle.lists.proofs.Tests.{same-test}
 use Rattle.lists.proofs.Lists.{every-at, every-i, any-same}
 use Rattle.quality.specs.Quality.{worse, worst}
@@ -25,7 +24,7 @@ use Rattle.rows.proofs.EvenMeasure.{even-quality}
 use Rattle.answers.specs.Answers.{Tests, firstRefusal}
 use Rattle.layout.specs.Layout.{Patch}
 use Rattle.answers.proofs.Refusals.{refuses}
-use Rattle.answers.proofs.ByNumber.{before, same-behind, testOf, passes}
+use Rattle.answers.proofs.ByNumber.{before}
 use Rattle.ring.specs.Ring.{Site, siteOf, m, flat, minRing, maxRing, numbersWrong, lengthWrong, notFlat, edgeTests, roundTests}
 use Rattle.ring.specs.Ring.{ringTests}
 use Rattle.ring.specs.SoundRing.{SoundRing}
@@ -37,13 +36,13 @@ use Rattle.triangulation.specs.Best.{worstOfWay, ringWays, chosen}
 use Rattle.triangulation.proofs.AdmissibleByFaces.{ring-admissible}
 use Rattle.triangulation.proofs.AllWays.{ways-span}
 use Rattle.triangulation.proofs.WorstOfWays.{rows-fractions}
-use Rattle.triangulation.proofs.WholeRing.{way-listed, listed-way, ring-chosen}
+use Rattle.triangulation.proofs.WholeRing.{way-listed, listed-way}
 use Rattle.triangulation.proofs.AcrossTables.{those-across, length-across}
 use Rattle.triangulation.proofs.BestInAnyRowOrder.{kin, piece-same, barred-same, worst-same, rows-same}
-use Rattle.calls.specs.Removing.{worstNow, noWay, noneBetter, patchAfter, totalDiffers, removalTests}
+use Rattle.calls.specs.Removing.{worstNow, noWay, noneBetter, removalTests}
 use Rattle.calls.specs.Flipping.{flip32Tests}
 use Rattle.tables.proofs.SameTables.{SameTables, other-way}
-use Rattle.tables.proofs.RingReplaced.{replaced-same, way-found, length-fits, worst-of-removed, some-goes}
+use Rattle.tables.proofs.RingReplaced.{length-fits, worst-of-removed, some-goes}
 
 -- ---- two sites alike: what the answers 15 and 16 go by
 
@@ -213,47 +212,22 @@ module _ (patch other : Patch) (e f : ℕ) (same : SameTables patch other) (apar
       (none-to right left three' (like other patch e f (other-way same) apart its-ring ring three'))
 
   -- 13 to 16 and 19
-  before-same : 3 ≤ m left → before 17 (removalTests patch left) ≡ before 17 (removalTests other right)
-  unfolding before removalTests
-  before-same three =
-      rw (
-        length-same patch other e f same apart,
-        flat-same patch other e f same apart,
-        room-same patch other e f same apart,
-        way-same three,
-        none-same three,
-      )
-
-  -- 17 is given for neither
-  last-same : 3 ≤ m left → notFlat left ≡ false → noWay left ≡ false
-      → totalDiffers patch (patchAfter left) ≡ totalDiffers other (patchAfter right)
-  unfolding patchAfter
-  last-same three flat way =
-      let three' : 3 ≤ m right = omega (arith, alike three .size) in
-      let (t, w) = way-found left three way in
-      let (u, x) = way-found right three' (sym (way-same three) ∙ way) in
-      replaced-same patch e f ring flat (chosen left) (ring-chosen left three ring t w .way .spans)
-      ∙ sym (replaced-same other e f its-ring (sym (flat-same patch other e f same apart) ∙ flat) (chosen right)
-      (ring-chosen right three' its-ring u x .way .spans))
-
-  pub removal-same : firstRefusal (removalTests patch left) ≡ firstRefusal (removalTests other right)
-  unfolding removalTests testOf before every
+  pub removal-same : firstRefusal (removalTests left) ≡ firstRefusal (removalTests right)
+  unfolding removalTests
   removal-same = go (lengthWrong left) refl
     where
-      go : (b : Bool) → lengthWrong left ≡ b
-          → firstRefusal (removalTests patch left) ≡ firstRefusal (removalTests other right)
+      go : (b : Bool) → lengthWrong left ≡ b → firstRefusal (removalTests left) ≡ firstRefusal (removalTests right)
       go true h =
           refuses 13 (lengthWrong left) _ h ∙ sym (refuses 13 (lengthWrong right) _ (sym (length-same patch other e f same apart) ∙ h))
       go false h =
           let three = length-fits left h .0 in
-          same-behind (before 17 (removalTests patch left))
-          ((17, totalDiffers patch (patchAfter left)) ∷ []) ((17, totalDiffers other (patchAfter right)) ∷ [])
-          (λ passed.
-          let flat = passes 19 (before 17 (removalTests patch left)) tt passed in
-          let way = passes 15 (before 17 (removalTests patch left)) tt passed in
-          ap (λ differs. firstRefusal ((17, differs) ∷ [])) (last-same three flat way))
-          ∙ ap (λ (tests : Tests). firstRefusal (tests ++ ((17, totalDiffers other (patchAfter right)) ∷ [])))
-          (before-same three)
+          rw (
+            length-same patch other e f same apart,
+            flat-same patch other e f same apart,
+            room-same patch other e f same apart,
+            way-same three,
+            none-same three,
+          )
 
   pub flip-same : firstRefusal (flip32Tests left) ≡ firstRefusal (flip32Tests right)
   unfolding flip32Tests

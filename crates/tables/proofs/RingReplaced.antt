@@ -7,15 +7,12 @@ use mathlib.Core.Option.{some, Option·getD}
 use mathlib.Core.Path.{_≡_, refl}
 use native.Mathlib.Omega.{arith}
 use borrow.Author.Tests.{le-ltb, ltb-false, not-false}
-use lib.Dec.{ltb, not-T}
-use lib.IntN.{ℤ}
+use lib.Dec.{ltb}
 use lib.ListN.{length}
-use lib.Signed.{ltZ, ltZ-yes, ≤ℤ-refl, clashℤ}
 use Rattle.lists.specs.Lists.{any}
-use Rattle.lists.proofs.Tests.{yes-is, no-is, is-yes, neither-is}
+use Rattle.lists.proofs.Tests.{yes-is, is-yes, neither-is}
 use Rattle.lists.proofs.Lists.{any-i, those-e}
 use Rattle.quality.specs.declared.Quality.{Quality}
-use Rattle.volume.specs.Volume.{sameZ}
 use Rattle.quality.specs.Quality.{worst, zeroQuality}
 use Rattle.rows.specs.declared.Row.{Row}
 use Rattle.rows.specs.RowMeasure.{totalD, rowQuality}
@@ -25,14 +22,11 @@ use Rattle.ring.specs.SoundRing.{SoundRing}
 use Rattle.triangulation.specs.Triangulation.{Tri, span, ways, tableAfter}
 use Rattle.triangulation.specs.Admissible.{admissible}
 use Rattle.triangulation.specs.Best.{ringWays}
-use Rattle.triangulation.proofs.TotalStays.{table-total}
+use Rattle.triangulation.proofs.TotalStays.{total-stays}
 use Rattle.triangulation.proofs.WholeRing.{RingWay, way-listed, found-way}
-use Rattle.calls.specs.Removing.{worstNow, noWay, totalDiffers}
+use Rattle.calls.specs.Removing.{worstNow, noWay}
 
 -- ---- the total D
-
-same-self : (x : ℤ) → sameZ x x ≡ true
-same-self x = let e = no-is (ltZ x x) (not-T (ltZ x x) (λ h. clashℤ (ltZ-yes h) (≤ℤ-refl x))) in rw e
 
 module _ (patch : Patch) (e f : ℕ) (ring : SoundRing (siteOf patch e f)) where
   abbrev replaced : Site
@@ -41,13 +35,7 @@ module _ (patch : Patch) (e f : ℕ) (ring : SoundRing (siteOf patch e f)) where
   pub replaced-total : notFlat replaced ≡ false → (t : Tri) → span t ≡ m replaced - 1
       → totalD (patch .points) (tableAfter replaced t) ≡ totalD (patch .points) (patch .rows)
   unfolding siteOf
-  replaced-total flat t spans = table-total replaced ring flat t spans (patch .rows) refl refl
-
-  -- 17 is not given
-  pub replaced-same : notFlat replaced ≡ false → (t : Tri) → span t ≡ m replaced - 1
-      → totalDiffers patch (record { points = replaced .points; rows = tableAfter replaced t }) ≡ false
-  unfolding totalDiffers siteOf
-  replaced-same flat t spans = rw (replaced-total flat t spans, same-self)
+  replaced-total flat t spans = total-stays replaced ring t spans (patch .rows) refl refl flat
 
 -- ---- the ways
 

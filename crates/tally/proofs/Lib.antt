@@ -1,5 +1,4 @@
 pub mod MeasuredRows
-pub mod TotalRowByRow
 pub mod WorstRowByRow
 pub mod RowsOnGrid
 pub mod OpensMeasured

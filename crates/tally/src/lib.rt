@@ -1,22 +1,19 @@
-// The rows of a patch, measured: D and quality of one row, the total D and the worst row of a table. `count`, of points, is for the
-// contracts alone: it says which patch is measured.
+// The rows of a patch, measured: D and quality of one row, and the worst row of a table. `count`, of points, is for the contracts alone:
+// it says which patch is measured.
 ghost use mathlib.Core.List.{map};
 ghost use mathlib.Core.Option.{Option·getD};
 ghost use mathlib.Core.Path.{_≡_};
-ghost use Prim.Native.Nat.{_≤_};
-ghost use lib.IntN.{natAbs};
 ghost use Rattle.lists.specs.Lists.{those};
-ghost use Rattle.volume.specs.Steps.{volumeLimit};
 ghost use Rattle.volume.specs.Volume.{pointsIn};
 ghost use Rattle.quality.specs.Quality.{worst, zeroQuality};
 ghost use Rattle.rows.specs.Rows.{rowsIn, holdsEdge};
-ghost use Rattle.rows.specs.RowMeasure.{rowD, rowQuality, totalD};
+ghost use Rattle.rows.specs.RowMeasure.{rowD, rowQuality};
 ghost use Rattle.tally.specs.Tally.{patchIn, worstOfPatch};
 ghost use Rattle.tally.specs.Steps.{Placed, Measured, worstWith, orZero};
 use quality::Quality;
 use rows::Row;
 
-// ---- one row, and the total
+// ---- one row
 
 // The quality of a row over the first `count` points.
 pub fn row_quality(coordinates: &[u8], count: usize, row: Row) -> Quality
@@ -33,25 +30,13 @@ pub fn row_quality(coordinates: &[u8], count: usize, row: Row) -> Quality
 // D of a row over the first `count` points.
 pub fn row_volume(coordinates: &[u8], count: usize, row: Row) -> i64
     requires { ⌜ Placed (now coordinates) count row ⌝ }
-    ensures { λ d. ⌜ (d ≡ rowD (pointsIn (now (coordinates .entry)) count) row) × (natAbs d ≤ volumeLimit) ⌝ }
+    ensures { λ d. ⌜ d ≡ rowD (pointsIn (now (coordinates .entry)) count) row ⌝ }
 {
     let p = volume::point_in(coordinates, row.p as usize);
     let q = volume::point_in(coordinates, row.q as usize);
     let r = volume::point_in(coordinates, row.r as usize);
     let s = volume::point_in(coordinates, row.s as usize);
     volume::volume(p, q, r, s)
-}
-
-// The total D of the first n rows.
-pub fn total_volume(coordinates: &[u8], count: usize, table: &[u8], n: usize) -> i64
-    requires { ⌜ Measured (now coordinates) count (now table) n ⌝ }
-    ensures { λ d. ⌜ d ≡ totalD (pointsIn (now (coordinates .entry)) count) (rowsIn (now (table .entry)) n) ⌝ }
-{
-    let mut total: i64 = 0;
-    for i in 0..n {
-        total += row_volume(coordinates, count, rows::row_in(table, i));
-    }
-    total
 }
 
 // ---- the worst

@@ -1,6 +1,6 @@
 -- Whatever triangulation of the ring or of a flat chain is carried out, the total D stays. The removed rows' D are those of their
--- links, the links are the sides, and the new rows' total is the sum over the sides, less the D of the closing one, which is 0 where
--- the chain is flat.
+-- links, the links are the sides, and the new rows' total is the sum over the sides of the chain, less D of the row across it,
+-- (a,b,v1,vm). The closing side of a ring makes up for that; of a chain nothing does, so it must be 0.
 use Prim.Native.Nat.{ℕ, zero, suc, _+_, _-_, _≤_, _<_}
 use mathlib.Core.Bool.{Bool, true, false, cond, not, _||_}
 use mathlib.Core.List.{List, [], _∷_, _++_, map, List·Memᴰ, Memᴰ·of-map, map-append}
@@ -8,7 +8,7 @@ use mathlib.Core.Path.{_≡_, refl, sym, ap, _∙_, subst}
 use native.Mathlib.Omega.{arith}
 use borrow.Author.Tests.{not-false}
 use lib.Dec.{T, ltb, nltb→le}
-use lib.IntN.{ℤ, pos, negsuc, _+ℤ_, +ℤ-idl, +ℤ-idr, +ℤ-comm}
+use lib.IntN.{ℤ, pos, negsuc, _+ℤ_, +ℤ-idr}
 use lib.ListN.{length, getD, length-map}
 use Rattle.algebra.proofs.Normal.{var, con, _:+_, norm, same, _⊹_, ring-from}
 use Rattle.lists.specs.Lists.{those, numbersFrom}
@@ -80,7 +80,7 @@ module _ (site : Site) where
       ∙ ap (λ x. D (at x) (at (t .q)) (at (t .r)) (at (t .s))) p
       ∙ ap (λ x. D (at a) (at x) (at (t .r)) (at (t .s))) q
 
-  module _ (sound : SoundRing site) (level : notFlat site ≡ false) (t : Tri) (spans : span t ≡ m site - 1) where
+  module _ (sound : SoundRing site) (t : Tri) (spans : span t ≡ m site - 1) where
     many : 2 ≤ m site
     many = omega (arith, span-over t)
 
@@ -154,54 +154,104 @@ module _ (site : Site) where
         ∙ ap (λ n. closingD (site .closed) +ℤ sumOver ofLink (sidesFrom 1 n)) (sym spans)
         ∙ ap (λ z. closingD (site .closed) +ℤ z) (sides-chain 1 t)
 
-    -- vm as `flat` has it
-    last-point : (n : ℕ) → 1 ≤ n → v site n ≡ getD (site .ring) (n - 1) 0
-    last-point zero h = absurd (omega arith)
-    last-point (suc n) h = let back : suc n - 1 ≡ n = omega arith in rw back
+    -- D of the row across, (a,b,v1,vm), and the other way round
+    abbrev acrossD : ℤ
+    acrossD = linkD site (v site 1) (v site (m site))
 
-    -- D(a,b,v1,vm) of a flat chain
-    flat-zero : flat site ≡ true → ofLink (v site 1, v site (m site)) ≡ pos 0
-    unfolding flat
-    flat-zero e = rw (last-point (m site) (omega (arith, many))) (same-zero _ (is-yes _ e))
+    abbrev backD : ℤ
+    backD = linkD site (v site (m site)) (v site 1)
 
-    -- the closing side of a ring goes twice, each way once; that of a flat chain has no D
-    closing-none : (closed : Bool) → not (closed || flat site) ≡ false → closingD closed +ℤ ofLink (v site 1, v site (m site)) ≡ pos 0
-    closing-none true e =
+    both-ways : acrossD +ℤ backD ≡ pos 0
+    both-ways =
         let at = place (site .points) in
-        let a = at (site .a) in
-        let b = at (site .b) in
-        let x = at (v site (m site)) in
-        let y = at (v site 1) in
-        ap (λ z. z +ℤ D a b y x) (+ℤ-idr (D a b x y)) ∙ turned-over a b x y
-    closing-none false e = +ℤ-idl (ofLink (v site 1, v site (m site))) ∙ flat-zero (not-false (flat site) e)
+        turned-over (at (site .a)) (at (site .b)) (at (v site 1)) (at (v site (m site)))
 
-    new-total : totalD (site .points) (newRows site 1 t) +ℤ ofLink (v site 1, v site (m site)) ≡ chainD site 1 t
+    new-total : totalD (site .points) (newRows site 1 t) +ℤ acrossD ≡ chainD site 1 t
     new-total =
         let e : 1 + span t ≡ m site = omega (arith, many) in
         subst (λ n. totalD (site .points) (newRows site 1 t) +ℤ linkD site (v site 1) (v site n) ≡ chainD site 1 t) e (total-piece site 1 t)
 
-    -- the new rows have the total of the removed ones
-    pub ring-total : totalD (site .points) (newRows site 1 t) ≡ totalD (site .points) (site .removed)
-    unfolding norm
-    ring-total =
-        ring-from
-        (totalD (site .points) (newRows site 1 t) ∷ totalD (site .points) (site .removed) ∷ chainD site 1 t
-        ∷ closingD (site .closed) ∷ ofLink (v site 1, v site (m site)) ∷ [])
-        (var 0) (var 1)
-        (same (var 0 :+ var 4) (var 2) new-total ⊹ same (var 3 :+ var 2) (var 1) (sym removed-total)
-        ⊹ same (con (pos 0)) (var 3 :+ var 4) (sym (closing-none (site .closed) level)))
-        refl
+    -- ---- the whole table
 
-    -- so the whole table keeps its total
-    pub table-total : (table : List Row) → site .removed ≡ those (holdsEdge (site .a) (site .b)) table
-        → site .kept ≡ those (λ row. not (holdsEdge (site .a) (site .b) row)) table
-        → totalD (site .points) (tableAfter site t) ≡ totalD (site .points) table
-    unfolding tableAfter
-    table-total table going staying =
-        let goes = holdsEdge (site .a) (site .b) in
-        total-append (site .points) (site .kept) (newRows site 1 t)
-        ∙ ap (λ z. totalD (site .points) (site .kept) +ℤ z) ring-total
-        ∙ +ℤ-comm (totalD (site .points) (site .kept)) (totalD (site .points) (site .removed))
-        ∙ ap (λ rows. totalD (site .points) rows +ℤ totalD (site .points) (site .kept)) going
-        ∙ ap (λ rows. totalD (site .points) (those goes table) +ℤ totalD (site .points) rows) staying
-        ∙ total-split (site .points) goes table
+    module _ (table : List Row) (going : site .removed ≡ those (holdsEdge (site .a) (site .b)) table)
+        (staying : site .kept ≡ those (λ row. not (holdsEdge (site .a) (site .b) row)) table) where
+      before-total : totalD (site .points) (site .removed) +ℤ totalD (site .points) (site .kept) ≡ totalD (site .points) table
+      before-total =
+          let goes = holdsEdge (site .a) (site .b) in
+          ap (λ rows. totalD (site .points) rows +ℤ totalD (site .points) (site .kept)) going
+          ∙ ap (λ rows. totalD (site .points) (those goes table) +ℤ totalD (site .points) rows) staying
+          ∙ total-split (site .points) goes table
+
+      after-total : totalD (site .points) (tableAfter site t)
+          ≡ totalD (site .points) (site .kept) +ℤ totalD (site .points) (newRows site 1 t)
+      unfolding tableAfter
+      after-total = total-append (site .points) (site .kept) (newRows site 1 t)
+
+      -- what the laws speak of
+      abbrev sums : List ℤ
+      sums =
+          totalD (site .points) (tableAfter site t) ∷ totalD (site .points) table
+          ∷ totalD (site .points) (site .kept) ∷ totalD (site .points) (newRows site 1 t) ∷ totalD (site .points) (site .removed)
+          ∷ chainD site 1 t ∷ closingD (site .closed) ∷ acrossD ∷ backD ∷ []
+
+      -- afterwards D of the closing side and of the row across are missing
+      table-total : totalD (site .points) (tableAfter site t) +ℤ (closingD (site .closed) +ℤ acrossD) ≡ totalD (site .points) table
+      unfolding norm
+      table-total =
+          ring-from sums (var 0 :+ (var 6 :+ var 7)) (var 1)
+          (same (var 0) (var 2 :+ var 3) after-total ⊹ same (var 3 :+ var 7) (var 5) new-total
+          ⊹ same (var 6 :+ var 5) (var 4) (sym removed-total) ⊹ same (var 4 :+ var 2) (var 1) before-total)
+          refl
+
+      -- the closing side of a ring is the row across the other way round, so the total stays
+      pub ring-stays : site .closed ≡ true → totalD (site .points) (tableAfter site t) ≡ totalD (site .points) table
+      unfolding norm
+      ring-stays closed =
+          ring-from sums (var 0) (var 1)
+          (same (var 0 :+ (var 6 :+ var 7)) (var 1) table-total ⊹ same (var 8 :+ con (pos 0)) (var 6) (sym (ap closingD closed))
+          ⊹ same (con (pos 0)) (var 7 :+ var 8) (sym both-ways))
+          refl
+
+      -- a chain has none, so its total grows by the row across the other way round
+      pub chain-grows : site .closed ≡ false → totalD (site .points) (tableAfter site t) ≡ totalD (site .points) table +ℤ backD
+      unfolding norm
+      chain-grows chain =
+          ring-from sums (var 0) (var 1 :+ var 8)
+          (same (var 0 :+ (var 6 :+ var 7)) (var 1) table-total ⊹ same (con (pos 0)) (var 6) (sym (ap closingD chain))
+          ⊹ same (con (pos 0)) (var 7 :+ var 8) (sym both-ways))
+          refl
+
+      -- and stays if the row across has no D,
+      pub flat-stays : site .closed ≡ false → acrossD ≡ pos 0 → totalD (site .points) (tableAfter site t) ≡ totalD (site .points) table
+      unfolding norm
+      flat-stays chain flat =
+          ring-from sums (var 0) (var 1)
+          (same (var 0) (var 1 :+ var 8) (chain-grows chain) ⊹ same (con (pos 0)) (var 7) (sym flat) ⊹ same (var 7 :+ var 8) (con (pos 0)) both-ways)
+          refl
+
+      -- and not otherwise
+      pub stays-flat : site .closed ≡ false → totalD (site .points) (tableAfter site t) ≡ totalD (site .points) table → acrossD ≡ pos 0
+      unfolding norm
+      stays-flat chain stays =
+          ring-from sums (var 7) (con (pos 0))
+          (same (var 1) (var 0) (sym stays) ⊹ same (var 0) (var 1 :+ var 8) (chain-grows chain) ⊹ same (var 7 :+ var 8) (con (pos 0)) both-ways)
+          refl
+
+      -- ---- a ring, or a chain that is flat
+
+      -- vm as `flat` has it
+      last-point : (n : ℕ) → 1 ≤ n → v site n ≡ getD (site .ring) (n - 1) 0
+      last-point zero h = absurd (omega arith)
+      last-point (suc n) h = let back : suc n - 1 ≡ n = omega arith in rw back
+
+      flat-zero : flat site ≡ true → acrossD ≡ pos 0
+      unfolding flat
+      flat-zero e = rw (last-point (m site) (omega (arith, many))) (same-zero _ (is-yes _ e))
+
+      pub total-stays : notFlat site ≡ false → totalD (site .points) (tableAfter site t) ≡ totalD (site .points) table
+      total-stays = go (site .closed) refl
+        where
+          go : (closed : Bool) → site .closed ≡ closed → not (closed || flat site) ≡ false
+              → totalD (site .points) (tableAfter site t) ≡ totalD (site .points) table
+          go true e h = ring-stays e
+          go false e h = flat-stays e (flat-zero (not-false (flat site) h))

@@ -1,4 +1,4 @@
--- Answers 19 and 14 to 17 of a removal, one by one: what decides each, given what the tests above it found.
+-- Answers 19 and 14 to 16 of a removal, one by one: what decides each, given what the tests above it found.
 use Prim.Native.Nat.{ℕ, suc, _+_, _-_, _*_, _≤_, _<_, min, max}
 use mathlib.Core.Bool.{Bool, true, false, cond, not, _||_}
 use mathlib.Core.List.{List, [], map}
@@ -7,7 +7,7 @@ use mathlib.Core.Path.{_≡_, refl, sym, ap, _∙_, subst}
 use native.Mathlib.Omega.{arith}
 use borrow.Author.Tests.{lt-ltb, le-ltb, ne-eqb, ltb-false}
 use lib.Dec.{T, eqb}
-use lib.IntN.{ℤ, pos}
+use lib.IntN.{pos}
 use lib.ListN.{length, getD, replicate, List·getD-append}
 use Rattle.lists.specs.Lists.{every, those}
 use Rattle.lists.proofs.Lists.{those-split}
@@ -18,11 +18,11 @@ use Rattle.volume.proofs.PointsInBytes.{points-length}
 use Rattle.rows.specs.Rows.{rowsIn, holdsEdge}
 use Rattle.rows.specs.Steps.{mostRows}
 use Rattle.mesh.specs.Mesh.{numbersFit}
-use Rattle.rows.specs.RowMeasure.{rowD, rowQuality, totalD}
+use Rattle.rows.specs.RowMeasure.{rowD, rowQuality}
 use Rattle.mesh.proofs.MeshRuleStated.{keeps-fits}
 use Rattle.rows.proofs.RowsOfTables.{rows-length}
 use Rattle.answers.specs.declared.Answer.the-variants.{Done, Refused}
-use Rattle.layout.specs.Layout.{Patch, maxRows}
+use Rattle.layout.specs.Layout.{maxRows}
 use Rattle.answers.specs.Answers.{Tests, firstRefusal}
 use Rattle.body.specs.Body.{coordinateOver}
 use Rattle.answers.proofs.ByNumber.{testOf, before, unlike, passes, stops}
@@ -40,7 +40,7 @@ use Rattle.output.proofs.RowsThenZeros.{table-size, table-read}
 use Rattle.replacement.specs.declared.Carried.{Carried}
 use Rattle.output.specs.declared.Rows.{Rows}
 use Rattle.replacement.specs.declared.Plan.{Plan}
-use Rattle.calls.specs.Removing.{worstNow, noRoom, noWay, noneBetter, patchAfter, totalDiffers, replacementTests}
+use Rattle.calls.specs.Removing.{worstNow, noRoom, noWay, noneBetter, patchAfter, replacementTests}
 use Rattle.edge.specs.Steps.{Ringed}
 use Rattle.flatness.specs.Steps.{Crossed, across}
 use Rattle.verdict.specs.Steps.{planAnswer, planOf}
@@ -53,9 +53,6 @@ module _ (coordinates : List ℕ) (count : ℕ) (table : List ℕ) (n a b : ℕ)
     (given : Ringed coordinates count table n a b closed ring) where
   abbrev its : Site
   its = siteIn coordinates count table n a b
-
-  abbrev patch : Patch
-  patch = patchIn coordinates count table n
 
   three : 3 ≤ m its
   three = given .ready .long
@@ -160,25 +157,25 @@ module _ (coordinates : List ℕ) (count : ℕ) (table : List ℕ) (n a b : ℕ)
   -- ---- the answers
 
   abbrev tests : Tests
-  tests = replacementTests patch its
+  tests = replacementTests its
 
   numbered : T (unlike 0 tests)
   unfolding every
   numbered = tt
 
   -- a refusal, with its number and nothing else
-  refusal : (k : ℕ) → firstRefusal (before (suc k) tests) ≡ 0 → testOf (suc k) tests ≡ true → noPlan (Refused (suc k)) ≡ planOf patch its
+  refusal : (k : ℕ) → firstRefusal (before (suc k) tests) ≡ 0 → testOf (suc k) tests ≡ true → noPlan (Refused (suc k)) ≡ planOf its
   unfolding planWith planAnswer
   refusal k front h =
-      let e : planAnswer patch its ≡ suc k = stops (suc k) tests numbered front h in
+      let e : planAnswer its ≡ suc k = stops (suc k) tests numbered front h in
       rw (e, ne-eqb (suc k) 0 (λ z. omega arith))
 
-  pub gives-19 : notFlat its ≡ true → noPlan (Refused 19) ≡ planOf patch its
+  pub gives-19 : notFlat its ≡ true → noPlan (Refused 19) ≡ planOf its
   unfolding firstRefusal before testOf
   gives-19 h = refusal 18 refl h
 
   pub gives-14 : notFlat its ≡ false → (after : ℕ) → after + ring .m ≡ n + cond closed 0 1 + 2 * (ring .m - 2) → maxRows < after
-      → noPlan (Refused 14) ≡ planOf patch its
+      → noPlan (Refused 14) ≡ planOf its
   unfolding firstRefusal before testOf
   gives-14 level after after-is h =
       refusal 13 (rw level) (lt-ltb maxRows (rowsAfter its) (omega (arith, room-is after after-is)))
@@ -190,7 +187,7 @@ module _ (coordinates : List ℕ) (count : ℕ) (table : List ℕ) (n a b : ℕ)
     roomy : noRoom its ≡ false
     roomy = le-ltb maxRows (rowsAfter its) room
 
-    pub gives-15 : way .best ≡ Mark → noPlan (Refused 15) ≡ planOf patch its
+    pub gives-15 : way .best ≡ Mark → noPlan (Refused 15) ≡ planOf its
     unfolding firstRefusal before testOf
     gives-15 e = refusal 14 (rw (level, roomy)) (marked its (given .sound) three way carries e)
 
@@ -213,48 +210,27 @@ module _ (coordinates : List ℕ) (count : ℕ) (table : List ℕ) (n a b : ℕ)
             best-decides its (given .sound) three top q (record { over = carries .fraction q (ap bestOf is) }) same
             ∙ ap (λ p. not (worse p q)) (sym (now-is ∙ round-now))
 
-        pub gives-16 : worse now q ≡ false → noPlan (Refused 16) ≡ planOf patch its
+        pub gives-16 : worse now q ≡ false → noPlan (Refused 16) ≡ planOf its
         unfolding firstRefusal before testOf
         gives-16 e = refusal 15 (rw (level, roomy, some-way)) (decides ∙ ap not e)
 
-        after : way .rows ≡ rowsWith (tableAfter its (chosen its))
-        after = carries .rows q (ap bestOf is)
-
-        pub measured-way : Measured coordinates count (way .rows .table) (way .rows .n)
-        measured-way = measured-after (way .rows) after some-way room
-
-        module _ (better : worse now q ≡ true) (before-total after-total : ℤ)
-            (before-is : before-total ≡ totalD (pointsIn coordinates count) (rowsIn table n))
-            (after-is : after-total ≡ totalD (pointsIn coordinates count) (rowsIn (way .rows .table) (way .rows .n))) where
-          some-better : noneBetter its ≡ false
-          some-better = decides ∙ ap not better
-
-          totals : totalDiffers patch (patchAfter its) ≡ not (sameZ before-total after-total)
-          unfolding totalDiffers patchAfter siteOf
-          totals = rw (before-is, after-is, rows-after (way .rows) after some-way room)
-
-          pub gives-17 : not (sameZ before-total after-total) ≡ true → noPlan (Refused 17) ≡ planOf patch its
-          unfolding firstRefusal before testOf
-          gives-17 h = refusal 16 (rw (level, roomy, some-way, some-better)) (totals ∙ h)
-
-          pub gives-0 : not (sameZ before-total after-total) ≡ false
-              → _≡_ {A = Plan} (record { answer = Done; rows = way .rows }) (planOf patch its)
-          unfolding planWith planAnswer firstRefusal
-          gives-0 h =
-              let z : planAnswer patch its ≡ 0 = rw (level, roomy, some-way, some-better, totals ∙ h) in
-              rw (z, after)
+        pub gives-0 : worse now q ≡ true → _≡_ {A = Plan} (record { answer = Done; rows = way .rows }) (planOf its)
+        unfolding planWith planAnswer firstRefusal
+        gives-0 e =
+            let z : planAnswer its ≡ 0 = rw (level, roomy, some-way, decides ∙ ap not e) in
+            rw (z, carries .rows q (ap bestOf is))
 
   -- ---- what was planned
 
-  module _ (planned : Plan) (i : planned ≡ planOf patch its) where
-    pub plan-refused : (k : ℕ) → planned .answer ≡ Refused k → Number (planAnswer patch its) k
+  module _ (planned : Plan) (i : planned ≡ planOf its) where
+    pub plan-refused : (k : ℕ) → planned .answer ≡ Refused k → Number (planAnswer its) k
     unfolding planWith
-    plan-refused k h = number-handed (planAnswer patch its) k (sym (ap (λ (p : Plan). p .answer) i) ∙ h)
+    plan-refused k h = number-handed (planAnswer its) k (sym (ap (λ (p : Plan). p .answer) i) ∙ h)
 
     module _ (h : planned .answer ≡ Done) where
-      pub plan-passes : planAnswer patch its ≡ 0
+      pub plan-passes : planAnswer its ≡ 0
       unfolding planWith
-      plan-passes = handed-done (planAnswer patch its) (planned .answer) (ap (λ (p : Plan). p .answer) i) h
+      plan-passes = handed-done (planAnswer its) (planned .answer) (ap (λ (p : Plan). p .answer) i) h
 
       pub plan-rows : planned .rows ≡ rowsWith (tableAfter its (chosen its))
       unfolding planWith

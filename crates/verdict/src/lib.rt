@@ -1,12 +1,10 @@
-// Whether a ring or chain is replaced: answers 19 and 14 to 17.
+// Whether a ring or chain is replaced: answers 19 and 14 to 16.
 ghost use mathlib.Core.Path.{_≡_};
 ghost use Rattle.triangulation.specs.Steps.{siteIn};
-ghost use Rattle.tally.specs.Tally.{patchIn};
 ghost use Rattle.edge.specs.Steps.{Ringed};
 ghost use Rattle.verdict.specs.Steps.{planOf};
 use answers::Answer;
 use cells::Best;
-use flatness::differ;
 use flatness::not_flat;
 use flatness::rows_after;
 use layout::MAX_ROWS;
@@ -15,7 +13,7 @@ use replacement::carry_out;
 use replacement::no_plan;
 use ring::Ring;
 
-// Answers 19 and 14 to 17 of a removal and, with answer 0, the rows afterwards.
+// Answers 19 and 14 to 16 of a removal and, with answer 0, the rows afterwards.
 pub fn decide(
     coordinates: &[u8],
     count: usize,
@@ -27,8 +25,7 @@ pub fn decide(
     ring: Ring,
 ) -> Plan
     requires { ⌜ Ringed (now coordinates) count (now table) n a b closed ring ⌝ }
-    ensures { λ r. ⌜ r ≡ planOf (patchIn (now (coordinates .entry)) count (now (table .entry)) n)
-        (siteIn (now (coordinates .entry)) count (now (table .entry)) n a b) ⌝ }
+    ensures { λ r. ⌜ r ≡ planOf (siteIn (now (coordinates .entry)) count (now (table .entry)) n a b) ⌝ }
 {
     if not_flat(coordinates, count, a, b, closed, ring) {
         return no_plan(Answer::Refused(answers::NOT_FLAT));
@@ -46,11 +43,6 @@ pub fn decide(
     let now = tally::worst_round(coordinates, count, table, n, a, b);
     if !now.worse(worst) {
         return no_plan(Answer::Refused(answers::NONE_BETTER));
-    }
-    let before = tally::total_volume(coordinates, count, table, n);
-    let after = tally::total_volume(coordinates, count, &rows.table, rows.n);
-    if differ(before, after) {
-        return no_plan(Answer::Refused(answers::TOTAL_DIFFERS));
     }
     Plan {
         answer: Answer::Done,

@@ -1,10 +1,28 @@
 -- A closed ring passes; an open chain goes by D of the row across it.
-use mathlib.Core.Path.{_∙_}
+use mathlib.Core.Bool.{Bool, true, false, not, _||_}
+use mathlib.Core.Path.{_≡_, refl, sym, ap, _∙_}
 use native.Mathlib.Omega.{arith}
 use borrow.Author.Needs.{needs}
+use lib.IntN.{ℤ, pos}
+use lib.Signed.{ltZ}
+use Rattle.volume.specs.Volume.{sameZ}
 use Rattle.volume.proofs.VolumeComputed.{read}
 use Rattle.flatness.proofs.not_flat.Statement.{statement}
 use Rattle.flatness.proofs.not_flat.Tie as tie
+
+-- a number below 0 is not 0
+below : {x d : ℤ} → x ≡ d → ltZ x (pos 0) ≡ true → true ≡ not (sameZ d (pos 0))
+below is e = let under = sym (ap (λ z. ltZ z (pos 0)) is) ∙ e in rw under
+
+-- and another is not 0 if it is over 0
+not-below : {x d : ℤ} → x ≡ d → ltZ x (pos 0) ≡ false → ltZ (pos 0) x ≡ not (sameZ d (pos 0))
+not-below {x} {d} is e =
+    let under = sym (ap (λ z. ltZ z (pos 0)) is) ∙ e in
+    ap (ltZ (pos 0)) is ∙ rw under (go (ltZ (pos 0) d))
+  where
+    go : (b : Bool) → b ≡ not (not (false || b))
+    go true = refl
+    go false = refl
 
 returns : tie.Need-returns
 returns c = rw (c .if1 .taken)
@@ -24,14 +42,17 @@ element-copy-out-t18 c = let pre = c .before .before .before .pre in omega (arit
 row-volume-requires : tie.Need-row-volume-requires
 row-volume-requires c κs = c .before .before .before .before .pre .placed
 
-differ-requires : tie.Need-differ-requires
-differ-requires c κs = search needs
-
 returns-2 : tie.Need-returns-2
 returns-2 c =
-    let volume = c .before in
-    let chain = volume .before .before .before in
-    c .differ .ensures ∙ rw (chain .if1 .left, read (volume .row-volume .ok) (volume .row-volume .ensures .0))
+    let measured = c .before in
+    rw (measured .before .before .before .if1 .left)
+    (below (read (measured .row-volume .ok) (measured .row-volume .ensures)) (c .if2 .taken))
+
+returns-3 : tie.Need-returns-3
+returns-3 c =
+    let measured = c .before in
+    rw (measured .before .before .before .if1 .left)
+    (not-below (read (measured .row-volume .ok) (measured .row-volume .ensures)) (c .if2 .left))
 
 pub not-flat-spec : {M : Type 1} → statement M
 not-flat-spec =
@@ -43,5 +64,5 @@ not-flat-spec =
     element-copy-out-t12
     element-copy-out-t18
     row-volume-requires
-    differ-requires
-    returns-2)
+    returns-2
+    returns-3)

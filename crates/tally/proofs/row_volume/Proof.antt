@@ -1,5 +1,5 @@
 -- `row_volume` is `rowD`: each number of the row is read as its point.
-use mathlib.Core.Path.{refl, _∙_}
+use mathlib.Core.Path.{_∙_}
 use Rattle.volume.proofs.VolumeComputed.{read}
 use Rattle.tally.proofs.MeasuredRows.{row-D-from}
 use borrow.Author.Needs.{needs}
@@ -40,9 +40,8 @@ returns c =
     let q = r .before .before in
     let p = q .before .before in
     let start = p .before .before .before in
-    let value = read (c .volume .ok) (c .volume .ensures .0)
-    ∙ row-D-from (start .pre) (p .point-in .ensures) (q .point-in2 .ensures) (r .point-in3 .ensures) (s .point-in4 .ensures) in
-    (value, rw (read {z = c .volume .result} (c .volume .ok) refl) (c .volume .ensures .1))
+    read (c .volume .ok) (c .volume .ensures .0)
+    ∙ row-D-from (start .pre) (p .point-in .ensures) (q .point-in2 .ensures) (r .point-in3 .ensures) (s .point-in4 .ensures)
 
 pub row-volume-spec : {M : Type 1} → statement M
 row-volume-spec =

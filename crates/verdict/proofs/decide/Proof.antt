@@ -1,19 +1,15 @@
--- Each way out is one case of the laws on answers 19 and 14 to 17.
+-- Each way out is one case of the laws on answers 19 and 14 to 16.
 use Prim.Native.Nat.{_≤_}
 use mathlib.Core.Bool.{false}
 use mathlib.Core.Path.{_≡_, sym, _∙_}
 use borrow.Author.Needs.{needs}
 use borrow.Author.Tests.{not-true, not-false}
-use Rattle.volume.specs.Volume.{pointsIn}
-use Rattle.volume.proofs.VolumeComputed.{read}
-use Rattle.rows.specs.Rows.{rowsIn}
-use Rattle.rows.specs.RowMeasure.{totalD}
 use Rattle.layout.specs.Layout.{maxRows}
 use Rattle.ring.specs.Ring.{Site, notFlat}
 use Rattle.triangulation.specs.Triangulation.{rowsAfter}
 use Rattle.triangulation.specs.Steps.{siteIn}
-use Rattle.verdict.proofs.VerdictAnswers.{countable, crossed, flat-is, has-room, measured-way}
-use Rattle.verdict.proofs.VerdictAnswers.{gives-19, gives-14, gives-15, gives-16, gives-17, gives-0}
+use Rattle.verdict.proofs.VerdictAnswers.{countable, crossed, flat-is, has-room}
+use Rattle.verdict.proofs.VerdictAnswers.{gives-19, gives-14, gives-15, gives-16, gives-0}
 use Rattle.verdict.proofs.decide.Statement.{statement}
 use Rattle.verdict.proofs.decide.Tie as tie
 
@@ -130,68 +126,17 @@ returns-4 c =
     _ (carried .carry-out .ensures) _ (told .best .given .1) _ (compared .before .worst-round .ensures)
     (sym (compared .worse .ensures) ∙ not-true _ (c .before .if3 .taken))
 
-total-volume-requires : tie.Need-total-volume-requires
-total-volume-requires c κs =
-    let carried = c .before .before .before .before .before .before .before in
-    carried .before .before .before .before .before .before .before .before .pre .measured
-
-total-volume-requires-2 : tie.Need-total-volume-requires-2
-total-volume-requires-2 c κs =
-    let compared = c .before .before .before .before .before in
-    let told = compared .before .before .before in
-    let carried = told .before .before .before in
-    let start = carried .before .before .before .before .before .before .before .before in
-    let args = start .args in
-    measured-way (args .coordinates .now) (args .count) (args .table .now) (args .n) (args .a) (args .b) (start .pre)
-    (level (carried .before)) (room (carried .before))
-    _ (carried .carry-out .ensures) _ (told .best .given .1) _ (compared .before .worst-round .ensures)
-
-differ-requires : tie.Need-differ-requires
-differ-requires c κs = search needs
-
-no-plan-requires-5 : tie.Need-no-plan-requires-5
-no-plan-requires-5 c κs = search needs
-
 returns-5 : tie.Need-returns-5
 returns-5 c =
-    let left = c .before .before .before .before .before .before .before .before in
-    let sum = c .before .before .before .before .before .before .before .total-volume in
-    let sum2 = c .before .before .before .total-volume2 in
-    let compared = left .before in
+    let compared = c .before in
     let told = compared .before .before .before in
     let carried = told .before .before .before in
     let start = carried .before .before .before .before .before .before .before .before in
     let args = start .args in
-    let points = pointsIn (args .coordinates .now) (args .count) in
-    let way = carried .carry-out .result in
-    c .no-plan5 .ensures
-    ∙ gives-17 (args .coordinates .now) (args .count) (args .table .now) (args .n) (args .a) (args .b) (start .pre)
-    (level (carried .before)) (room (carried .before))
-    _ (carried .carry-out .ensures) _ (told .best .given .1) _ (compared .before .worst-round .ensures)
-    (sym (compared .worse .ensures) ∙ not-false _ (left .if3 .left))
-    _ _ (read {v = totalD points (rowsIn (args .table .now) (args .n))} (sum .ok) (sum .ensures))
-    (read {v = totalD points (rowsIn (way .rows .table) (way .rows .n))} (sum2 .ok) (sum2 .ensures))
-    (sym (c .before .before .differ .ensures) ∙ c .before .if4 .taken)
-
-returns-6 : tie.Need-returns-6
-returns-6 c =
-    let left = c .before .before .before .before .before .before .before in
-    let sum = c .before .before .before .before .before .before .total-volume in
-    let sum2 = c .before .before .total-volume2 in
-    let compared = left .before in
-    let told = compared .before .before .before in
-    let carried = told .before .before .before in
-    let start = carried .before .before .before .before .before .before .before .before in
-    let args = start .args in
-    let points = pointsIn (args .coordinates .now) (args .count) in
-    let way = carried .carry-out .result in
     gives-0 (args .coordinates .now) (args .count) (args .table .now) (args .n) (args .a) (args .b) (start .pre)
     (level (carried .before)) (room (carried .before))
     _ (carried .carry-out .ensures) _ (told .best .given .1) _ (compared .before .worst-round .ensures)
-    (sym (compared .worse .ensures) ∙ not-false _ (left .if3 .left))
-    _ _ (read {v = totalD points (rowsIn (args .table .now) (args .n))} (sum .ok) (sum .ensures))
-    (read {v = totalD points (rowsIn (way .rows .table) (way .rows .n))} (sum2 .ok) (sum2 .ensures))
-    (sym (c .before .differ .ensures) ∙ c .if4 .left)
+    (sym (compared .worse .ensures) ∙ not-false _ (c .if3 .left))
 
 pub decide-spec : {M : Type 1} → statement M
 decide-spec =
@@ -213,9 +158,4 @@ decide-spec =
     worse-requires
     no-plan-requires-4
     returns-4
-    total-volume-requires
-    total-volume-requires-2
-    differ-requires
-    no-plan-requires-5
-    returns-5
-    returns-6)
+    returns-5)

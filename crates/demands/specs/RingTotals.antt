@@ -1,0 +1,58 @@
+-- Requirement §7.8: the total D, from the ring alone. Whatever triangles cut the ring round an edge, or a flat chain, the kept rows and the new rows have the
+-- total D that the table had before. No answer and no call stands in it, and no quality: the ring may have any length, and what cuts it
+-- need not keep the mesh rule, nor be better. So there is no total to test before a removal is carried out; and a chain has to be flat.
+use Prim.Native.Nat.{ℕ, _-_, _≤_, min, max}
+use mathlib.Core.Bool.{Bool, true, false}
+use mathlib.Core.List.{List}
+use mathlib.Core.Path.{_≡_}
+use lib.Dec.{T}
+use lib.IntN.{ℤ, pos, _+ℤ_}
+use lib.ListN.{length, getD}
+use Rattle.volume.specs.Volume.{D}
+use Rattle.rows.specs.RowMeasure.{place, totalD}
+use Rattle.mesh.specs.Mesh.{keepsMeshRule}
+use Rattle.layout.specs.Layout.{Patch}
+use Rattle.triangulation.specs.Triangulation.{Triangle}
+use Rattle.polygon.specs.Polygon.{cuts}
+use Rattle.tables.specs.RoundAnEdge.{Round}
+use Rattle.demands.specs.TriangleSets.{tableBy}
+use Rattle.demands.specs.Premises.{edgeAt}
+
+-- An edge of a table that keeps the mesh rule: the rows that hold both ends are one ring, or one chain. As there is a row, it has two points
+-- or more.
+pub record Surrounded (patch : Patch) (e f : ℕ) (closed : Bool) (vs : List ℕ) : Type 0 where
+  pub rule : T (keepsMeshRule (length (patch .points)) (patch .rows))
+  pub round : Round (patch .rows) (min e f) (max e f) closed vs
+  pub from-two : 2 ≤ length vs
+
+-- D(a,b,v,w)
+abbrev pub volumeAt : Patch → ℕ → ℕ → ℕ → ℕ → ℤ
+volumeAt patch e f v w = let at = place (patch .points) in D (at (min e f)) (at (max e f)) (at v) (at w)
+
+-- v1
+abbrev pub firstOf : List ℕ → ℕ
+firstOf vs = getD vs 0 0
+
+-- vm
+abbrev pub lastOf : List ℕ → ℕ
+lastOf vs = getD vs (length vs - 1) 0
+
+-- the total D before
+abbrev pub totalBefore : Patch → ℤ
+totalBefore patch = totalD (patch .points) (patch .rows)
+
+-- the total D of the kept rows and the two rows of each triangle
+abbrev pub totalBy : Patch → ℕ → ℕ → Bool → List ℕ → List Triangle → ℤ
+totalBy patch e f closed vs ts = totalD (patch .points) (tableBy (edgeAt patch e f closed vs) ts)
+
+-- Of all triangles that cut v1..vm: the total of a ring stays, and that of a flat chain does. That of any chain grows by D(a,b,vm,v1), so
+-- none stays but that of a flat one.
+pub record RingTotals : Type 0 where
+  pub ring : (patch : Patch) (e f : ℕ) (vs : List ℕ) → Surrounded patch e f true vs → (ts : List Triangle) → T (cuts (length vs) ts)
+      → totalBy patch e f true vs ts ≡ totalBefore patch
+  pub flat-chain : (patch : Patch) (e f : ℕ) (vs : List ℕ) → Surrounded patch e f false vs → (ts : List Triangle) → T (cuts (length vs) ts)
+      → volumeAt patch e f (firstOf vs) (lastOf vs) ≡ pos 0 → totalBy patch e f false vs ts ≡ totalBefore patch
+  pub chain : (patch : Patch) (e f : ℕ) (vs : List ℕ) → Surrounded patch e f false vs → (ts : List Triangle) → T (cuts (length vs) ts)
+      → totalBy patch e f false vs ts ≡ totalBefore patch +ℤ volumeAt patch e f (lastOf vs) (firstOf vs)
+  pub only-flat : (patch : Patch) (e f : ℕ) (vs : List ℕ) → Surrounded patch e f false vs → (ts : List Triangle) → T (cuts (length vs) ts)
+      → totalBy patch e f false vs ts ≡ totalBefore patch → volumeAt patch e f (firstOf vs) (lastOf vs) ≡ pos 0
