@@ -53,7 +53,7 @@ refuses-all number meets =
 -- ---- one with a fixed block for an answer, and one that copies its input: demand 2
 
 -- a removal with our answers is done where ours is
-done-too : (block : List ℕ) → removeAnswer block blank 0 1 ≡ 0 → removalNumber (removeGives block blank 0 1 .removal) ≡ 0
+pub done-too : (block : List ℕ) → removeAnswer block blank 0 1 ≡ 0 → removalNumber (removeGives block blank 0 1 .removal) ≡ 0
 done-too block h = remove-number block blank 0 1 ∙ h
 
 pub fixed-block : (fixed : List ℕ) → Demand2 (fixing fixed) → ⊥
