@@ -9,7 +9,7 @@ use std::ffi::OsStr;
 use std::fs;
 
 /// Every name of the header with the model's number, in the header's order: for the answers that in which they are tested.
-const NAMES: [(&str, usize); 45] = [
+const NAMES: [(&str, usize); 44] = [
     ("BLOCK_BYTES", limits::BLOCK_BYTES),
     ("FIELDS_BYTES", limits::FIELD_BYTES),
     ("SUMMARY_ELEMENTS", SUMMARY_NUMBERS),
@@ -45,7 +45,6 @@ const NAMES: [(&str, usize); 45] = [
     ("NO_ROOM", answer::ROOM as usize),
     ("BLOCKED", answer::NOT_ADMISSIBLE as usize),
     ("NONE_BETTER", answer::NONE_BETTER as usize),
-    ("TOTAL_DIFFERS", answer::TOTAL_DIFFERS as usize),
     ("UPRIGHT", place::UPRIGHT),
     ("FLAT", place::FLAT),
     ("INVERTED", place::INVERTED),

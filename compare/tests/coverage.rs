@@ -25,7 +25,6 @@ const POSSIBLE: [(&str, &[usize]); 9] = [
     ),
 ];
 
-/// 17 is a guard that never stands in the way.
 const REMOVAL: [usize; 18] = [0, 1, 2, 3, 4, 5, 6, 7, 8, 9, 10, 11, 12, 13, 14, 15, 16, 19];
 
 fn holds(name: &str, counts: &Counts, possible: &[usize], least: u64) {

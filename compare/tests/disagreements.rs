@@ -131,7 +131,7 @@ fn exactly_the_damaged_records_are_told() {
     assert_eq!(told, expected(&file, &damaged));
     let agree = cases - DAMAGES.len();
     assert!(told.ends_with(&format!("\n{cases} cases, {agree} agree\n")));
-    assert!(told.contains("remove 17: 0 of 1\n"), "a stored 16 made 17");
+    assert!(told.contains("remove 17: 0 of 1\n"), "a stored 16 made 17, which no call gives");
 }
 
 #[test]

@@ -20,7 +20,7 @@ static SHOWN: LazyLock<BTreeMap<String, usize>> = LazyLock::new(|| {
     shown
 });
 
-/// The answers each call can give; 17 is a guard that never stands in the way.
+/// The answers each call can give.
 const POSSIBLE: [&[u32]; CALLS.len()] = [
     &[0, 1, 2, 3, 4, 5, 6, 7, 8],
     &[0, 1, 3, 4, 5, 6, 7, 8],

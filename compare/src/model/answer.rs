@@ -34,8 +34,6 @@ pub const ROOM: u32 = 14;
 pub const NOT_ADMISSIBLE: u32 = 15;
 /// Removal only: none better.
 pub const NONE_BETTER: u32 = 16;
-/// Removal only: total D before and after differ.
-pub const TOTAL_DIFFERS: u32 = 17;
 /// 2-3 only: both apexes are one point. Tested between 13 and 14.
 pub const ONE_APEX: u32 = 18;
 /// Removal only: the chain is not flat. Tested between 13 and 14.

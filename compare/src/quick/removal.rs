@@ -1,4 +1,4 @@
-//! Removal of one edge: answers 1 to 17 and 19, the page row and the block afterwards.
+//! Removal of one edge: answers 1 to 16 and 19, the page row and the block afterwards.
 
 use super::block::{numbers, opened, seal, Fields, RowBytes};
 use super::measure::{volume, Quality};
@@ -84,11 +84,6 @@ impl<const MOST: usize> Rows<MOST> {
         }
         worst
     }
-
-    fn total_volume(&self, fields: Fields) -> i64 {
-        let volumes = self.all().iter().map(|row| volume(fields.corners(row)));
-        volumes.sum()
-    }
 }
 
 /// Removes the edge and writes the block afterwards, or refuses and leaves `out` as it came.
@@ -127,9 +122,6 @@ pub fn remove(block: &[u8], end: usize, other_end: usize, out: &mut [u8]) -> Res
     let region = removed.rows[0][ROW_BYTES - 1];
     let mut new = Rows::<MOST_NEW_ROWS>::NONE;
     new.push_piece(&site, region, &pieces, 0, m - 1);
-    if removed.total_volume(fields) != new.total_volume(fields) {
-        return Err(answer::TOTAL_DIFFERS);
-    }
     write(block, kept.all(), new.all(), out);
     let worst_kept = kept.worst(fields);
     Ok(PageRow {
