@@ -106,9 +106,10 @@ enum {
     SUMPNEWT_ONE_APEX = 18,      /* 2-3 flip: both apexes are one point */
     SUMPNEWT_NO_ROOM = 14,       /* rows afterwards would be over 60 */
     SUMPNEWT_BLOCKED = 15,       /* no triangulation is admissible (2-3 flip: the mesh rule would break) */
-    SUMPNEWT_NONE_BETTER = 16,   /* removal: each makes a tetrahedron no better than the worst round the edge now */
-    SUMPNEWT_TOTAL_DIFFERS = 17  /* removal: a guard; proved never to come */
+    SUMPNEWT_NONE_BETTER = 16    /* removal: each makes a tetrahedron no better than the worst round the edge now */
 };
+
+/* 17 is unused: it stood for a removal that changes the total of D, and none does, by whichever triangulation. */
 
 /* The elements of a summary. */
 enum {
@@ -158,7 +159,7 @@ uint32_t sumpnewt_shown(const uint8_t *block, size_t n, double *out, size_t out_
  * the edge that keep the mesh rule, the one whose worst tetrahedron is best, if that is better than the worst there now.
  * The tetrahedra round the edge close, or they are one open chain between two outer faces that make one plane.
  * The new block has the kept rows in order, then the new rows with the region of the first removed row; points stay.
- * out_n must be 512. Answers 0 to 17 and 19.
+ * out_n must be 512. Answers 0 to 16 and 19.
  */
 uint32_t sumpnewt_remove(const uint8_t *block, size_t n, size_t a, size_t b, uint8_t *out, size_t out_n);
 
