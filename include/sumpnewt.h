@@ -109,7 +109,7 @@ enum {
     SUMPNEWT_NONE_BETTER = 16    /* removal: each makes a tetrahedron no better than the worst round the edge now */
 };
 
-/* 17 is unused: it stood for a removal that changes the total of D, and none does, by whichever triangulation. */
+/* 17 is unused: whichever way a ring or a flat chain is cut, the total of D stays, so there is nothing to refuse. */
 
 /* The elements of a summary. */
 enum {

@@ -5,7 +5,7 @@ mod common;
 use common::*;
 use compare::model::mesh::mesh_rule;
 use compare::model::pieces::Pieces;
-use compare::model::removal::{is_flat, removable_site, total_d};
+use compare::model::removal::{is_flat, removable_site};
 use compare::model::ring::{site, Site};
 use compare::model::{answer, printout, remove, Patch, Point, Removal, Row};
 

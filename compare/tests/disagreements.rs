@@ -97,7 +97,7 @@ const DAMAGES: [(&str, u8, usize); 9] = [
     ("summary", 0, FIGURES_AT),
     ("remove", 0, FIGURES_AT),
     ("remove", 0, RING_AT),
-    ("remove", 16, ANSWER_AT),
+    ("remove", 19, ANSWER_AT),
     ("flip_32", 0, OUTPUT_AT),
     ("flip_23", 18, OUTPUT_AT),
 ];
@@ -131,7 +131,7 @@ fn exactly_the_damaged_records_are_told() {
     assert_eq!(told, expected(&file, &damaged));
     let agree = cases - DAMAGES.len();
     assert!(told.ends_with(&format!("\n{cases} cases, {agree} agree\n")));
-    assert!(told.contains("remove 17: 0 of 1\n"), "a stored 16 made 17, which no call gives");
+    assert!(told.contains("remove 18: 0 of 1\n"), "a stored 19 made 18");
 }
 
 #[test]

@@ -4,7 +4,6 @@ mod common;
 
 use common::*;
 use compare::gen::cases;
-use compare::model::removal::total_d;
 use compare::model::{flip_23, flip_32, open, Call, Patch, Row};
 
 /// The blocks and faces of generated 2-3 flips.

@@ -1,8 +1,10 @@
 //! What a call may write: a refusal nothing, answer 0 a block that keeps what has to be kept.
 
+mod common;
+
+use common::total_d;
 use compare::gen::cases;
 use compare::model::mesh::mesh_rule;
-use compare::model::removal::total_d;
 use compare::model::{open, run, summary, Call, Outcome, Patch};
 
 fn came_with(call: &Call) -> Outcome {

@@ -3,11 +3,14 @@
 mod common;
 
 use common::*;
+use compare::model::limits::LONGEST_RING;
+use compare::model::measure::determinant;
 use compare::model::mesh::{faces, turned, Face};
 use compare::model::pieces::{
     closing_faces, piece_admissible, ring_admissible, Pieces, TriangleWorsts, UsedFaces,
 };
-use compare::model::removal::{removable_site, total_d};
+use compare::model::removal::removable_site;
+use compare::model::ring::site;
 use compare::model::triangulations::{diagonals, new_rows, ways};
 use compare::model::Row;
 use std::collections::{HashMap, HashSet};
@@ -43,20 +46,34 @@ fn each_has_m_minus_2_triangles_every_side_once_and_every_diagonal_twice() {
     }
 }
 
+/// Of rings and chains that are refused too: also those of two points, bent ones, and where there is no room.
 #[test]
-fn total_d_is_kept_by_every_triangulation() {
-    let mut chains = 0;
+fn total_d_is_kept_by_every_triangulation_but_those_of_a_bent_chain() {
+    let [mut rings, mut flat, mut bent] = [0; 3];
     for (patch, [a, b]) in edges(18, 1_500) {
-        let Ok(site) = removable_site(&patch, a, b) else {
+        let Ok(site) = site(&patch, a, b) else {
             continue;
         };
+        if site.m() > LONGEST_RING {
+            continue;
+        }
+        let back = [site.a, site.b, site.v(site.m()), site.v(1)];
+        let back = determinant(back.map(|number| patch.points[usize::from(number)]));
+        let (change, met) = match (site.closed, back) {
+            (true, _) => (0, &mut rings),
+            (false, 0) => (0, &mut flat),
+            (false, _) => (back, &mut bent),
+        };
+        *met += 1;
         for way in ways(1, site.m()).iter().step_by(7) {
             let after = site.patch_after(&patch, &new_rows(&site, way));
-            assert_eq!(total_d(&after), total_d(&patch));
+            assert_eq!(total_d(&after), total_d(&patch) + change);
         }
-        chains += usize::from(!site.closed);
     }
-    assert!(chains > 50, "{chains}");
+    assert!(
+        rings > 200 && flat > 50 && bent > 30,
+        "{rings} {flat} {bent}"
+    );
 }
 
 /// Does one of the rows have this directed face?

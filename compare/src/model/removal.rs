@@ -86,15 +86,6 @@ pub fn worst_removed(patch: &Patch, site: &Site) -> Quality {
     qualities.min().expect("an edge that is held has rows")
 }
 
-/// The total D of all rows: no call changes it.
-pub fn total_d(patch: &Patch) -> i64 {
-    patch
-        .rows
-        .iter()
-        .map(|row| determinant(patch.corners(row)))
-        .sum()
-}
-
 /// "Worst is taken over all rows of the patch"; a removal has rows before and after.
 fn shown_worst(patch: &Patch) -> f64 {
     shown_row(patch, worst_row(patch).expect("the patch has rows"))

@@ -6,6 +6,7 @@ pub mod commands;
 
 use compare::gen::{cases, Random};
 use compare::model::limits::BLOCK_BYTES;
+use compare::model::measure::determinant;
 use compare::model::mesh::{even_arrangements, mesh_rule, EVEN};
 use compare::model::{open, Call, Patch, Point, Row};
 
@@ -108,4 +109,10 @@ pub fn tetrahedra(patch: &Patch) -> Vec<Row> {
     let mut rows: Vec<Row> = patch.rows.iter().map(least).collect();
     rows.sort_unstable();
     rows
+}
+
+/// The total D of all rows.
+pub fn total_d(patch: &Patch) -> i64 {
+    let volumes = patch.rows.iter().map(|row| determinant(patch.corners(row)));
+    volumes.sum()
 }

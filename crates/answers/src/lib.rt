@@ -50,8 +50,6 @@ pub const BLOCKED: u8 = 15;
 // None is better.
 pub const NONE_BETTER: u8 = 16;
 
-// 17 is unused: the total D stays, whichever way a ring or a flat chain is cut.
-
 // Both rows at the face have one apex.
 pub const ONE_APEX: u8 = 18;
 

@@ -9,8 +9,6 @@ use lib.Dec.{T}
 use lib.ListN.{length, length-map}
 use Rattle.lists.specs.Lists.{every, any, has, different}
 use Rattle.lists.proofs.Tests.{yes-is}
-use Rattle.lists.proofs.Counts.{count-some, count-most}
-use Rattle.lists.proofs.Numbers.{map-numbers-length}
 use Rattle.layout.specs.Layout.{Patch, maxRows, fieldsOf}
 use Rattle.block.specs.Holding.{RightBlock}
 use Rattle.answers.specs.Answers.{Tests, firstRefusal}
@@ -23,9 +21,9 @@ use Rattle.ring.specs.Ring.{lengthWrong, notFlat, edgeTests}
 use Rattle.triangulation.specs.Triangulation.{rowsAfter}
 use Rattle.calls.specs.Removing.{noRoom, removalTests, removeAnswer, Sound}
 use Rattle.calls.proofs.CallTests.{remove-left}
-use Rattle.tables.specs.RoundAnEdge.{reads, linked, pairCount, neighbours, isPair, Round}
+use Rattle.tables.specs.RoundAnEdge.{pairCount, Round}
 use Rattle.tables.proofs.RingReplaced.{length-passes}
-use Rattle.tables.proofs.RowsAndLinks.{pairAt, round-ends, as-many}
+use Rattle.tables.proofs.RowsAndLinks.{round-ends, as-many}
 use Rattle.tables.proofs.RoundByWords.{closed-is, ring-is, whole-is}
 use Rattle.accepted.proofs.AcceptedCalls.{rows-after}
 use Rattle.demands.specs.Kernels.{ours}
@@ -33,18 +31,6 @@ use Rattle.demands.specs.Premises.{edgeAt, Ringed, FlatChain, HasRoom}
 use Rattle.demands.specs.Words.{Passes}
 use Rattle.answers.proofs.ToldByNumber.{past, goes-past}
 use Rattle.demands.proofs.Demand1.{numbered}
-
--- where some row holds the edge, there is a pair of neighbours
-pub pair-there : (block : List ℕ) (a b : ℕ) (closed : Bool) (vs : List ℕ) → Round (fieldsOf block .rows) a b closed vs
-    → (v w : ℕ) → T (linked (fieldsOf block .rows) a b v w) → 0 < pairCount closed vs
-pair-there block a b closed vs round v w h =
-    omega (
-      arith,
-      count-some (reads a b v w) (fieldsOf block .rows) h,
-      round .one-row-each v w,
-      count-most (isPair v w) (neighbours closed vs),
-      map-numbers-length (pairAt vs) (pairCount closed vs),
-    )
 
 pub numbers-fit : (points e f : ℕ) → e < points → f < points → (e ≡ f → ⊥) → numbersWrong points (e ∷ f ∷ []) ≡ false
 unfolding numbersWrong every different any

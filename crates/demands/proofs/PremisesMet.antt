@@ -5,25 +5,28 @@ use mathlib.Core.List.{List}
 use mathlib.Core.Path.{_≡_, sym, ap, _∙_}
 use native.Mathlib.Omega.{arith}
 use borrow.Author.Tests.{ltb-false, not-false}
-use lib.Dec.{T, ltb, nltb→le}
-use lib.IntN.{ℤ, pos, negsuc}
+use lib.IntN.{pos}
 use lib.ListN.{length, getD}
-use Rattle.lists.proofs.Tests.{is-yes, neither-r}
-use Rattle.volume.specs.Volume.{D, sameZ}
+use Rattle.lists.proofs.Tests.{is-yes}
+use Rattle.lists.proofs.Counts.{some-counted}
+use Rattle.volume.specs.Volume.{D}
+use Rattle.rows.specs.Rows.{holdsEdge}
 use Rattle.rows.specs.RowMeasure.{place}
 use Rattle.layout.specs.Layout.{blockBytes, maxRows, fieldsOf}
 use Rattle.block.proofs.RightBlocks.{right-block}
 use Rattle.ring.specs.Ring.{Site, siteOf, m, flat, lengthWrong, notFlat}
 use Rattle.ring.proofs.EdgeGoesRound.{tests-passed, numbers-right, site-goes-round}
 use Rattle.triangulation.specs.Triangulation.{Tri, triangles, rowsAfter}
+use Rattle.triangulation.proofs.TotalStays.{same-zero}
 use Rattle.triangulation.proofs.WholeRing.{RingWay}
 use Rattle.calls.specs.Removing.{noRoom, Sound}
-use Rattle.calls.proofs.SoundEdges.{opens-rule}
+use Rattle.calls.proofs.SoundEdges.{opens-rule, some-removed}
 use Rattle.tables.specs.RoundAnEdge.{Round}
 use Rattle.tables.proofs.RingReplaced.{length-fits}
 use Rattle.tables.proofs.RoundByWords.{round-of}
 use Rattle.accepted.proofs.AcceptedCalls.{rows-after}
 use Rattle.demands.specs.Premises.{TwoPoints, Premises}
+use Rattle.demands.specs.RingTotals.{Surrounded}
 use Rattle.demands.proofs.WaysAndTrees.{tree-way}
 
 module _ (block : List ℕ) (e f : ℕ) (sound : Sound block e f) where
@@ -47,12 +50,15 @@ module _ (block : List ℕ) (e f : ℕ) (sound : Sound block e f) where
       round-of (min e f) (max e f) points (patch .rows) rule (λ i. apart (omega arith)) (site .closed) (site .ring)
       (site-goes-round points patch e f apart rule (tests-passed site e f (sound .one) .1))
 
--- the whole number 0
-same-zero : (x : ℤ) → T (sameZ x (pos 0)) → x ≡ pos 0
-same-zero (pos n) h =
-    let none : n ≡ 0 = omega (arith, nltb→le 0 n (neither-r (ltb n 0) (ltb 0 n) h)) in
-    ap pos none
-same-zero (negsuc n) h = absurd h
+  -- so it is an edge whose total stays, or grows by what `RingTotals` says
+  pub sound-surrounded : Surrounded (fieldsOf block) e f (site .closed) (site .ring)
+  unfolding siteOf
+  sound-surrounded = record {
+    rule = opens-rule block (sound .opens);
+    apart = sound-ends .apart;
+    some-row = some-counted (holdsEdge (min e f) (max e f)) (fieldsOf block .rows) (some-removed block e f sound);
+    round = sound-round;
+  }
 
 pub flat-chain : (site : Site) → notFlat site ≡ false → site .closed ≡ false
     → let at = place (site .points) in

@@ -1,7 +1,7 @@
 -- Answers 11 and 13 of a removal, and 12 of every call on an edge, are given exactly when their words are true of the rows.
 use Prim.Native.Nat.{ℕ, _-_, _<_, min, max}
 use mathlib.Core.Bool.{Bool, true, false, cond, not, _&&_, _||_}
-use mathlib.Core.List.{List, _++_, List·Memᴰ, Memᴰ·map}
+use mathlib.Core.List.{List, _++_, List·Memᴰ}
 use mathlib.Core.Logic.{_↔_, _⊎_, inl, inr}
 use mathlib.Core.Path.{_≡_, refl, sym, ap, _∙_, subst}
 use native.Mathlib.Omega.{arith}
@@ -10,26 +10,24 @@ use lib.Dec.{T, ltb, ltb→lt}
 use lib.ListN.{length}
 use Rattle.lists.specs.Lists.{every, has}
 use Rattle.lists.proofs.Tests.{is-yes, or-e, or-true}
-use Rattle.lists.proofs.Lists.{any-e, those-i}
 use Rattle.lists.proofs.Places.{in-length}
-use Rattle.rows.specs.Rows.{holdsEdge}
 use Rattle.mesh.specs.Mesh.{keepsMeshRule}
 use Rattle.layout.specs.Layout.{Patch, fieldsOf}
 use Rattle.answers.specs.Answers.{Tests, firstRefusal}
 use Rattle.answers.proofs.ByNumber.{testOf, before, unlike, passes, stops}
-use Rattle.links.specs.Links.{Link, link, starts, ends}
+use Rattle.links.specs.Links.{Link, starts, ends}
 use Rattle.walk.specs.Walk.{allClose, circleOf, chainOf}
-use Rattle.ring.specs.Ring.{Site, siteOf, m, minRing, maxRing, whole, orChains}
+use Rattle.ring.specs.Ring.{Site, siteOf, minRing, maxRing, whole, orChains}
 use Rattle.ring.specs.Ring.{linkOpen, manyCircles, lengthWrong, edgeTests}
 use Rattle.links.specs.Links.{linksOf}
 use Rattle.calls.specs.Removing.{removalTests, removeAnswer, Sound}
 use Rattle.tables.specs.RoundAnEdge.{pairCount, Round, AllClose, TwoCircles, OneChain, WrongLength}
-use Rattle.tables.proofs.RowsAndLinks.{linked-read}
+use Rattle.tables.proofs.RowsAndLinks.{held-link, held-pair}
 use Rattle.tables.proofs.CirclesByWords.{close-words, words-close, two-words, words-two, chain-words, ring-words}
 use Rattle.demands.specs.Premises.{Held, edgeAt}
 use Rattle.answers.proofs.ToldByNumber.{once, told, exactly}
 use Rattle.demands.proofs.FrontTests.{number, tests, held-left, front-11, front-12}
-use Rattle.demands.proofs.EdgeFound.{pair-there, site-is, site-sound}
+use Rattle.demands.proofs.EdgeFound.{site-is, site-sound}
 
 -- 11, by whether the links close and whether all lie on the ring or chain
 abbrev openTest : Bool → Bool → Bool → Bool
@@ -66,9 +64,7 @@ module _ (block out : List ℕ) (e f : ℕ) (held : Held block out e f) where
   ends-apart i = held .ends .apart (omega arith)
 
   some-held : (l : Link) × List·Memᴰ l its
-  some-held =
-      let (row, m, h) = any-e (holdsEdge low high) (patch .rows) (held .some-row) in
-      (link low high row, Memᴰ·map (link low high) (those-i (holdsEdge low high) (patch .rows) m h))
+  some-held = held-link low high count (patch .rows) rule (held .some-row)
 
   some-its : 0 < length its
   some-its = in-length its (some-held .1)
@@ -102,9 +98,7 @@ module _ (block out : List ℕ) (e f : ℕ) (held : Held block out e f) where
   -- one ring or chain: the kernel's edge is it
   module _ (closed : Bool) (vs : List ℕ) (round : Round (patch .rows) low high closed vs) where
     pub pair : 0 < pairCount closed vs
-    pair =
-        let (l, m) = some-held in
-        pair-there block low high closed vs round (l .0) (l .1) (linked-read low high count (patch .rows) rule ends-apart (l .0) (l .1) m)
+    pair = held-pair low high count (patch .rows) rule (held .some-row) ends-apart closed vs round
 
     found : site ≡ edgeAt patch e f closed vs
     found = site-is block e f (held .right) closed vs round pair

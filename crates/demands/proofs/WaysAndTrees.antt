@@ -26,7 +26,7 @@ use Rattle.triangulation.specs.Triangulation.{Tri, span, Triangle, triangles, t
 use Rattle.triangulation.specs.Admissible.{admissible}
 use Rattle.triangulation.specs.Best.{worstOfWay}
 use Rattle.triangulation.proofs.Trees.{aRow, bRow}
-use Rattle.triangulation.proofs.TotalOfPiece.{total-append}
+use Rattle.triangulation.proofs.TotalOfPiece.{total-append, twoD}
 use Rattle.triangulation.proofs.WholeRing.{RingWay}
 use Rattle.triangulation.proofs.WorstOfWays.{Over, rows-over, over-rows, way-fraction}
 use Rattle.polygon.specs.Polygon.{cuts, Alike}
@@ -123,10 +123,10 @@ module _ (site : Site) where
 
   -- D of a triangle's two rows
   abbrev bothD : Triangle → ℤ
-  bothD x = rowD (site .points) (a-row x) +ℤ rowD (site .points) (b-row x)
+  bothD x = twoD site (x .0) (x .1) (x .2)
 
   rows-total : (ts : List Triangle) → totalD (site .points) (rowsOf site ts) ≡ sumOver bothD ts
-  unfolding totalD twoRows flatMap
+  unfolding totalD twoRows flatMap rowD
   rows-total [] = refl
   rows-total (x ∷ ts) =
       let a = rowD (site .points) (a-row x) in
@@ -134,9 +134,9 @@ module _ (site : Site) where
       ap (λ z. a +ℤ (b +ℤ z)) (rows-total ts) ∙ sym (+ℤ-assoc a b (sumOver bothD ts))
 
   -- triangles that stand once each make the total of the same triangles in another order
-  table-total : (ts us : List Triangle) → Single ts → Alike ts us
+  total-alike : (ts us : List Triangle) → Single ts → Alike ts us
       → totalD (site .points) (tableBy site ts) ≡ totalD (site .points) (tableBy site us)
-  table-total ts us single alike =
+  total-alike ts us single alike =
       let kept = totalD (site .points) (site .kept) in
       let same = sum-same bothD us ts (omega (arith, alike-length ts us alike)) single (λ x. alike-in ts us alike) in
       total-append (site .points) (site .kept) (rowsOf site ts)
@@ -173,7 +173,7 @@ module _ (site : Site) where
     total-tree ts h =
         let (t, spans, alike) = tree-of (m site) ts two h in
         let single = apart-single ts (cuts-apart (m site) ts h) in
-        (t, spans, table-total ts (triangles 1 t) single alike ∙ ap (totalD (site .points)) (tree-table t))
+        (t, spans, total-alike ts (triangles 1 t) single alike ∙ ap (totalD (site .points)) (tree-table t))
 
     -- of one tree, and of no other
     pub way-tree : (ts : List Triangle) → Way site ts

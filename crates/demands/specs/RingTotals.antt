@@ -1,14 +1,17 @@
--- Requirement §7.8: the total D, from the ring alone. Whatever triangles cut the ring round an edge, or a flat chain, the kept rows and the new rows have the
--- total D that the table had before. No answer and no call stands in it, and no quality: the ring may have any length, and what cuts it
--- need not keep the mesh rule, nor be better. So there is no total to test before a removal is carried out; and a chain has to be flat.
-use Prim.Native.Nat.{ℕ, _-_, _≤_, min, max}
+-- Requirement §7.8: the total D, from the ring alone. Whatever triangles cut the ring round an edge, or a flat chain, the kept rows and the
+-- new rows have the total D that the table had before. No answer and no call stands in it, and no quality: the ring may have any length, and
+-- what cuts it need not keep the mesh rule, nor be better. So there is no total to test before a removal is carried out; and a chain has to be
+-- flat.
+use Prim.Native.Nat.{ℕ, _-_, min, max}
 use mathlib.Core.Bool.{Bool, true, false}
 use mathlib.Core.List.{List}
 use mathlib.Core.Path.{_≡_}
 use lib.Dec.{T}
 use lib.IntN.{ℤ, pos, _+ℤ_}
 use lib.ListN.{length, getD}
+use Rattle.lists.specs.Lists.{any}
 use Rattle.volume.specs.Volume.{D}
+use Rattle.rows.specs.Rows.{holdsEdge}
 use Rattle.rows.specs.RowMeasure.{place, totalD}
 use Rattle.mesh.specs.Mesh.{keepsMeshRule}
 use Rattle.layout.specs.Layout.{Patch}
@@ -18,12 +21,12 @@ use Rattle.tables.specs.RoundAnEdge.{Round}
 use Rattle.demands.specs.TriangleSets.{tableBy}
 use Rattle.demands.specs.Premises.{edgeAt}
 
--- An edge of a table that keeps the mesh rule: the rows that hold both ends are one ring, or one chain. As there is a row, it has two points
--- or more.
+-- An edge of a table that keeps the mesh rule: two different points, some row holds both, and the rows that do are one ring or one chain.
 pub record Surrounded (patch : Patch) (e f : ℕ) (closed : Bool) (vs : List ℕ) : Type 0 where
   pub rule : T (keepsMeshRule (length (patch .points)) (patch .rows))
+  pub apart : e ≡ f → ⊥
+  pub some-row : T (any (holdsEdge (min e f) (max e f)) (patch .rows))
   pub round : Round (patch .rows) (min e f) (max e f) closed vs
-  pub from-two : 2 ≤ length vs
 
 -- D(a,b,v,w)
 abbrev pub volumeAt : Patch → ℕ → ℕ → ℕ → ℕ → ℤ
@@ -37,9 +40,9 @@ firstOf vs = getD vs 0 0
 abbrev pub lastOf : List ℕ → ℕ
 lastOf vs = getD vs (length vs - 1) 0
 
--- the total D before
-abbrev pub totalBefore : Patch → ℤ
-totalBefore patch = totalD (patch .points) (patch .rows)
+-- the total D of a patch
+abbrev pub totalOf : Patch → ℤ
+totalOf patch = totalD (patch .points) (patch .rows)
 
 -- the total D of the kept rows and the two rows of each triangle
 abbrev pub totalBy : Patch → ℕ → ℕ → Bool → List ℕ → List Triangle → ℤ
@@ -49,10 +52,10 @@ totalBy patch e f closed vs ts = totalD (patch .points) (tableBy (edgeAt patch e
 -- none stays but that of a flat one.
 pub record RingTotals : Type 0 where
   pub ring : (patch : Patch) (e f : ℕ) (vs : List ℕ) → Surrounded patch e f true vs → (ts : List Triangle) → T (cuts (length vs) ts)
-      → totalBy patch e f true vs ts ≡ totalBefore patch
-  pub flat-chain : (patch : Patch) (e f : ℕ) (vs : List ℕ) → Surrounded patch e f false vs → (ts : List Triangle) → T (cuts (length vs) ts)
-      → volumeAt patch e f (firstOf vs) (lastOf vs) ≡ pos 0 → totalBy patch e f false vs ts ≡ totalBefore patch
+      → totalBy patch e f true vs ts ≡ totalOf patch
+  pub flat : (patch : Patch) (e f : ℕ) (vs : List ℕ) → Surrounded patch e f false vs → (ts : List Triangle) → T (cuts (length vs) ts)
+      → volumeAt patch e f (firstOf vs) (lastOf vs) ≡ pos 0 → totalBy patch e f false vs ts ≡ totalOf patch
   pub chain : (patch : Patch) (e f : ℕ) (vs : List ℕ) → Surrounded patch e f false vs → (ts : List Triangle) → T (cuts (length vs) ts)
-      → totalBy patch e f false vs ts ≡ totalBefore patch +ℤ volumeAt patch e f (lastOf vs) (firstOf vs)
+      → totalBy patch e f false vs ts ≡ totalOf patch +ℤ volumeAt patch e f (lastOf vs) (firstOf vs)
   pub only-flat : (patch : Patch) (e f : ℕ) (vs : List ℕ) → Surrounded patch e f false vs → (ts : List Triangle) → T (cuts (length vs) ts)
-      → totalBy patch e f false vs ts ≡ totalBefore patch → volumeAt patch e f (firstOf vs) (lastOf vs) ≡ pos 0
+      → totalBy patch e f false vs ts ≡ totalOf patch → volumeAt patch e f (firstOf vs) (lastOf vs) ≡ pos 0

@@ -9,7 +9,7 @@ use Rattle.score.specs.Score.{scoreOf, worstScore, badness, totalBadness, octav
 use Rattle.page.specs.Page.{quotient, shown, pageRow}
 use Rattle.rows.specs.Rows.{rowIn, rowsIn}
 use Rattle.mesh.specs.Mesh.{faces, sameFace, uses, numbersFit, facesApart, keepsMeshRule}
-use Rattle.rows.specs.RowMeasure.{rowD, rowS, rowQuality, totalD}
+use Rattle.rows.specs.RowMeasure.{rowD, rowS, rowQuality}
 use Rattle.rows.specs.Tetrahedra.{evenly, arrangedFrom}
 use Rattle.layout.specs.Layout.{fieldsOf, bodyOf, sumsOnto, sumBytes}
 use Rattle.layout.specs.Layout.{sumWrong}
@@ -40,7 +40,7 @@ unfolding
     pointIn pointsIn determinant D squaredLength S qualityOf quality worse worst best
     roundedUp scoreOf worstScore badness totalBadness octaveOf octave
     quotient shown pageRow
-    rowIn rowsIn faces sameFace uses numbersFit facesApart keepsMeshRule rowD rowS rowQuality totalD
+    rowIn rowsIn faces sameFace uses numbersFit facesApart keepsMeshRule rowD rowS rowQuality
     evenly arrangedFrom
     fieldsOf bodyOf sumsOnto sumBytes
     sumWrong zeroMissing coordinateOver numberWrong firstRefusal bodyTests openAnswer

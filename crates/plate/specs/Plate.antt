@@ -24,6 +24,10 @@ plateRows = row 0 1 4 2 ∷ row 0 1 5 4 ∷ row 0 1 3 5 ∷ []
 unfoldable pub plate : Patch
 plate = record { points = platePoints (at 12 2 12); rows = plateRows }
 
+-- the plate with point 2 one step out of the plane
+unfoldable pub bentPlate : Patch
+bentPlate = record { points = platePoints (at 12 2 11); rows = plateRows }
+
 -- the plate with a seventh point above it and more rows
 unfoldable pub plateUnder : List Row → Patch
 plateUnder rows = record { points = platePoints (at 12 2 12) ++ (at 12 8 24 ∷ []); rows = plateRows ++ rows }
@@ -52,8 +56,8 @@ unfolding platePoints plateRows plateOf definitions
 single-row = tt
 
 -- one step out of the plane: 19
-pub bent : T (eqb (answer (record { points = platePoints (at 12 2 11); rows = plateRows }) 0 1) 19)
-unfolding platePoints plateRows definitions
+pub bent : T (eqb (answer bentPlate 0 1) 19)
+unfolding platePoints plateRows bentPlate definitions
 bent = tt
 
 -- a kept row that uses a face across the chain, (0,3,2) or (1,2,3), in that direction: 15; in the other direction it is allowed

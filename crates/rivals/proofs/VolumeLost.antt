@@ -1,80 +1,97 @@
--- A chain that is not flat cannot be replaced, whatever the kernel and however it cuts: the total D would not be the block's. And the two
--- kernels by which it would change do not meet demand 2.
+-- A chain that is not flat cannot be replaced, whatever the kernel and however it cuts: the total D would not be the block's. So one that
+-- takes such a chain does not meet demand 2; nor does one that turns a new row over.
 use Prim.Native.Nat.{ℕ}
 use mathlib.Core.Bool.{Bool, false}
-use mathlib.Core.List.{List}
+use mathlib.Core.List.{List, [], _∷_}
 use mathlib.Core.Path.{_≡_, refl, sym, ap, _∙_}
 use native.Mathlib.Omega.{arith}
 use lib.Dec.{T}
-use lib.IntN.{ℤ, pos, natAbs}
+use lib.IntN.{pos, natAbs}
 use lib.ListN.{length}
+use Rattle.lists.specs.Lists.{every, any}
 use Rattle.volume.specs.declared.Point.{Point}
 use Rattle.rows.specs.declared.Row.{Row}
 use Rattle.rows.specs.RowMeasure.{totalD}
 use Rattle.layout.specs.Layout.{fieldsOf, bytesOf}
 use Rattle.triangulation.specs.Triangulation.{Triangle}
-use Rattle.polygon.specs.Polygon.{cuts}
+use Rattle.polygon.specs.Polygon.{sides, overtakes, cross, sameTriangle, overlap, apart, within, cuts}
 use Rattle.accepted.specs.Accepted.{Accepted}
 use Rattle.demands.specs.Kernels.{removes}
 use Rattle.demands.specs.TriangleSets.{tableBy}
 use Rattle.demands.specs.Premises.{edgeAt}
-use Rattle.demands.specs.RingTotals.{Surrounded, volumeAt, firstOf, lastOf}
+use Rattle.demands.specs.RingTotals.{Surrounded, volumeAt, firstOf, lastOf, totalOf}
 use Rattle.demands.specs.Demands.{Demand2}
+use Rattle.demands.proofs.PremisesMet.{sound-surrounded}
 use Rattle.demands.proofs.TotalFromRing.{ring-totals}
 use Rattle.facts.specs.AllDefinitions.{definitions}
 use Rattle.facts.specs.Facts.{blank, blockAWith, blockA}
-use Rattle.plate.specs.Plate.{platePoints, plateRows}
-use Rattle.rivals.specs.Volumes.{takingBent, bentPlate, exchanging}
+use Rattle.plate.specs.Plate.{platePoints, plateRows, bentPlate}
+use Rattle.rivals.specs.Volumes.{takingBent, turningFirst}
 use Rattle.rivals.proofs.RivalBlocks.{done-A}
 use Rattle.rivals.proofs.ShutOut.{done-too}
 
 -- ---- any kernel
 
 -- what is left of a chain by any triangles is accepted only if the chain is flat
-pub only-flat : (block output : List ℕ) (e f : ℕ) (vs : List ℕ) (goes : Row → Bool) (new : List Row) (ts : List Triangle)
+pub accepted-flat : (block output : List ℕ) (e f : ℕ) (vs : List ℕ) (goes : Row → Bool) (new : List Row) (ts : List Triangle)
     → Surrounded (fieldsOf block) e f false vs → T (cuts (length vs) ts)
     → fieldsOf output .rows ≡ tableBy (edgeAt (fieldsOf block) e f false vs) ts
     → Accepted block output goes new → volumeAt (fieldsOf block) e f (firstOf vs) (lastOf vs) ≡ pos 0
-only-flat block output e f vs goes new ts given h rows accepted =
+accepted-flat block output e f vs goes new ts given h rows accepted =
     ring-totals .only-flat (fieldsOf block) e f vs given ts h
     (ap (λ (points : List Point). totalD points (tableBy (edgeAt (fieldsOf block) e f false vs) ts)) (sym (accepted .points))
     ∙ ap (totalD (fieldsOf output .points)) (sym rows)
     ∙ accepted .volume)
 
--- ---- these two
+-- ---- one that takes the bent plate
 
--- the total D of a block
-abbrev total : List ℕ → ℤ
-total block = totalD (fieldsOf block .points) (fieldsOf block .rows)
+abbrev bentBlock : List ℕ
+bentBlock = bytesOf bentPlate
 
--- the bent plate is taken, and loses 144 of 7872
-bent-taken : removes takingBent (bytesOf bentPlate) blank 0 1 ≡ 0
+abbrev bentChain : List ℕ
+bentChain = 3 ∷ 5 ∷ 4 ∷ 2 ∷ []
+
+abbrev bentWay : List Triangle
+bentWay = (1, 2, 4) ∷ (2, 3, 4) ∷ []
+
+bent-surrounded : Surrounded (fieldsOf bentBlock) 0 1 false bentChain
+unfolding platePoints plateRows bentPlate definitions
+bent-surrounded = sound-surrounded bentBlock 0 1 (record { opens = refl; one = refl })
+
+bent-cut : T (cuts 4 bentWay)
+unfolding cuts within apart overlap cross overtakes sides sameTriangle every any
+bent-cut = tt
+
+bent-taken : removes takingBent bentBlock blank 0 1 ≡ 0
 unfolding platePoints plateRows bentPlate definitions
 bent-taken = refl
 
-bent-before : total (bytesOf bentPlate) ≡ pos 7872
+bent-rows : fieldsOf (takingBent .remove bentBlock blank 0 1 .1) .rows ≡ tableBy (edgeAt (fieldsOf bentBlock) 0 1 false bentChain) bentWay
 unfolding platePoints plateRows bentPlate definitions
-bent-before = refl
+bent-rows = refl
 
-bent-after : total (takingBent .remove (bytesOf bentPlate) blank 0 1 .1) ≡ pos 7728
+-- its D is 144
+bent-across : volumeAt (fieldsOf bentBlock) 0 1 3 2 ≡ pos 144
 unfolding platePoints plateRows bentPlate definitions
-bent-after = refl
+bent-across = refl
 
 pub taken-bent : Demand2 takingBent → ⊥
 taken-bent meets =
-    let volume = meets .remove (bytesOf bentPlate) blank 0 1 bent-taken .accepted .volume in
-    omega (arith, ap natAbs (sym bent-after ∙ volume ∙ bent-before))
+    let its = meets .remove bentBlock blank 0 1 bent-taken in
+    let flat = accepted-flat bentBlock _ 0 1 bentChain _ _ bentWay bent-surrounded bent-cut bent-rows (its .accepted) in
+    omega (arith, ap natAbs (sym bent-across ∙ flat))
 
--- of block A one of the two new rows would be turned over, and the other is as large
-whole-A : total (bytesOf blockA) ≡ pos 1728
-unfolding blockAWith blockA definitions
+-- ---- one that turns a new row of block A over: the other is as large
+
+whole-A : totalOf (fieldsOf (bytesOf blockA)) ≡ pos 1728
+unfolding blockAWith blockA totalD definitions
 whole-A = refl
 
-exchanged-A : total (exchanging .remove (bytesOf blockA) blank 0 1 .1) ≡ pos 0
-unfolding blockAWith blockA definitions
-exchanged-A = refl
+turned-A : totalOf (fieldsOf (turningFirst .remove (bytesOf blockA) blank 0 1 .1)) ≡ pos 0
+unfolding blockAWith blockA totalD definitions
+turned-A = refl
 
-pub exchanged-numbers : Demand2 exchanging → ⊥
-exchanged-numbers meets =
+pub turned-row : Demand2 turningFirst → ⊥
+turned-row meets =
     let volume = meets .remove (bytesOf blockA) blank 0 1 (done-too (bytesOf blockA) done-A) .accepted .volume in
-    omega (arith, ap natAbs (sym exchanged-A ∙ volume ∙ whole-A))
+    omega (arith, ap natAbs (sym turned-A ∙ volume ∙ whole-A))

@@ -90,12 +90,15 @@ fanned fan site = elim (apex site 1 (m site)) [ none ↦ side | some k ↦ cut (
 abbrev pub patchBy : (ℕ → Tri) → Site → Patch
 patchBy fan site = record { points = site .points; rows = tableAfter site (fanned fan site) }
 
--- the page row and the ring of its removal
-abbrev pub givenBy : (ℕ → Tri) → Patch → Site → Removed
-givenBy fan patch site = record {
-  removal = Done (pageRow (shown (worstOfPatch patch)) (shown (worstOfPatch (patchBy fan site))));
+-- what a removal that leaves a patch gives: the true page row, and the ring
+abbrev pub doneWith : Patch → Site → Patch → Removed
+doneWith patch site after = record {
+  removal = Done (pageRow (shown (worstOfPatch patch)) (shown (worstOfPatch after)));
   ring = ringWith (site .ring);
 }
+
+abbrev pub givenBy : (ℕ → Tri) → Patch → Site → Removed
+givenBy fan patch site = doneWith patch site (patchBy fan site)
 
 -- what a removal gives with an answer
 abbrev pub answered : Removed → ℕ → Removed

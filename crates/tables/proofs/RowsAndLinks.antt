@@ -3,14 +3,15 @@ use Prim.Native.Nat.{ℕ, zero, suc, _+_, _-_, _≤_, _<_}
 use mathlib.Core.Bool.{Bool, true, false, cond, not, _&&_}
 use mathlib.Core.List.{List, map, List·Memᴰ, List·Memᴰ·head, List·Memᴰ·tail, Memᴰ·map, Memᴰ·of-map}
 use mathlib.Core.Path.{_≡_, refl, sym, ap, _∙_, subst}
+use native.Mathlib.Decide.{decLe}
 use native.Mathlib.Omega.{arith}
 use borrow.Author.Tests.{eq-eqb, ne-eqb, eqb-false}
 use lib.Dec.{T, eqb, eqb→eq}
 use lib.ListN.{length, getD, take, drop, length-map, take-append-drop}
-use Rattle.lists.specs.Lists.{every, those, count, has, different, numbersFrom}
+use Rattle.lists.specs.Lists.{every, any, those, count, has, different, numbersFrom}
 use Rattle.lists.proofs.Tests.{and-l, and-r, and-i, eq-test}
 use Rattle.lists.proofs.Lists.{every-at, any-i, any-e, those-e, those-i}
-use Rattle.lists.proofs.Counts.{count-some, count-member, some-counted}
+use Rattle.lists.proofs.Counts.{count-some, count-most, count-member, some-counted}
 use Rattle.lists.proofs.Numbers.{has-i, different-places, different-append, no-more, numbers-i, numbers-e, map-numbers-length}
 use Rattle.lists.proofs.Numbers.{map-numbers-take}
 use Rattle.lists.proofs.Places.{in-at, at-in}
@@ -26,7 +27,7 @@ use Rattle.rows.proofs.EvenGroup.{arranged-from}
 use Rattle.links.specs.Links.{Link, link, starts, ends}
 use Rattle.walk.specs.Walk.{smallest, heads}
 use Rattle.links.specs.Links.{linksOf}
-use Rattle.links.proofs.LinksUnderRule.{link-is, starts-different}
+use Rattle.links.proofs.LinksUnderRule.{link-is, links-fit, starts-different}
 use Rattle.walk.proofs.TheSmallest.{smallest-is}
 use Rattle.walk.proofs.ClosedWalks.{after}
 use Rattle.walk.proofs.FirstPoint.{head-e, head-i}
@@ -119,6 +120,24 @@ chain-less closed vs e = rw e
 pub ring-full : (closed : Bool) (vs : List ℕ) → closed ≡ true → pairCount closed vs ≡ length vs
 ring-full closed vs e = rw e (omega arith)
 
+-- where some row holds the edge, it has a link, and so there is a pair of neighbours
+module _ (a b points : ℕ) (rows : List Row) (rule : T (keepsMeshRule points rows)) (held : T (any (holdsEdge a b) rows)) where
+  pub held-link : (l : Link) × List·Memᴰ l (linksOf a b rows)
+  held-link =
+      let (row, m, h) = any-e (holdsEdge a b) rows held in
+      (link a b row, Memᴰ·map (link a b) (those-i (holdsEdge a b) rows m h))
+
+  pub held-pair : (a ≡ b → ⊥) → (closed : Bool) (vs : List ℕ) → Round rows a b closed vs → 0 < pairCount closed vs
+  held-pair apart closed vs round =
+      let (l, m) = held-link in
+      omega (
+        arith,
+        count-some (reads a b (l .0) (l .1)) rows (linked-read a b points rows rule apart (l .0) (l .1) m),
+        round .one-row-each (l .0) (l .1),
+        count-most (isPair (l .0) (l .1)) (neighbours closed vs),
+        map-numbers-length (pairAt vs) (pairCount closed vs),
+      )
+
 -- ---- what is carried along the links
 
 module _ (vs : List ℕ) (P : ℕ → Type 0) (n : ℕ) (near : length vs ≤ suc n) (step : (i : ℕ) → i < n → P (getD vs i 0) → P (after vs i)) where
@@ -161,6 +180,22 @@ module _ (a b points : ℕ) (rows : List Row) (rule : T (keepsMeshRule points ro
 
   pub round-linked : (i : ℕ) → i < n → List·Memᴰ (getD vs i 0, after vs i) links
   round-linked i h = read-linked a b points rows rule (getD vs i 0) (after vs i) (pair-read i h)
+
+  -- there are two points or more: no point has a link to itself
+  pub two-points : 2 ≤ length vs
+  two-points = go closed refl
+    where
+      alone : length vs ≡ 1 → 0 < n → ⊥
+      alone one h =
+          links-fit a b (round-ends .2) points rows rule (round-linked 0 h) .v-w (sym (after-last vs 0 (sym one)))
+
+      go : (c : Bool) → closed ≡ c → 2 ≤ length vs
+      go true e = by (decLe 2 (length vs))
+        where
+          by : Dec (2 ≤ length vs) → 2 ≤ length vs
+          by (yes two) = two
+          by (no few) = absurd (alone (omega (arith, ring-full closed vs e)) some)
+      go false e = omega (arith, chain-less closed vs e)
 
   round-only : (l : Link) → List·Memᴰ l links → (i : ℕ) × (i < n) × (l ≡ (getD vs i 0, after vs i))
   round-only l m =

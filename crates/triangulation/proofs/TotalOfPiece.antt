@@ -47,7 +47,7 @@ module _ (site : Site) where
   chainD i (cut l r) = chainD i l +ℤ chainD (i + span l) r
 
   -- D of the two rows of a triangle
-  abbrev twoD : ℕ → ℕ → ℕ → ℤ
+  abbrev pub twoD : ℕ → ℕ → ℕ → ℤ
   twoD i k j =
       let at : ℕ → Point = λ x. place (site .points) (v site x) in
       let a = place (site .points) (site .a) in

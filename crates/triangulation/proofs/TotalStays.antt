@@ -33,11 +33,16 @@ use Rattle.triangulation.proofs.NewRowsProper.{next-link, last-link, al
 use Rattle.triangulation.proofs.TotalOfPiece.{total-append, turned-over, linkD, chainD, total-piece}
 
 -- the whole number 0
-same-zero : (x : ℤ) → T (sameZ x (pos 0)) → x ≡ pos 0
+pub same-zero : (x : ℤ) → T (sameZ x (pos 0)) → x ≡ pos 0
 same-zero (pos n) h =
     let none : n ≡ 0 = omega (arith, nltb→le 0 n (neither-r (ltb n 0) (ltb 0 n) h)) in
     ap pos none
 same-zero (negsuc n) h = absurd h
+
+-- vm as the definitions of flatness have it
+pub last-point : (site : Site) (n : ℕ) → 1 ≤ n → v site n ≡ getD (site .ring) (n - 1) 0
+last-point site zero h = absurd (omega arith)
+last-point site (suc n) h = let back : suc n - 1 ≡ n = omega arith in rw back
 
 -- ---- the sides of the ring
 
@@ -226,27 +231,24 @@ module _ (site : Site) where
       unfolding norm
       flat-stays chain flat =
           ring-from sums (var 0) (var 1)
-          (same (var 0) (var 1 :+ var 8) (chain-grows chain) ⊹ same (con (pos 0)) (var 7) (sym flat) ⊹ same (var 7 :+ var 8) (con (pos 0)) both-ways)
+          (same (var 0) (var 1 :+ var 8) (chain-grows chain) ⊹ same (con (pos 0)) (var 7) (sym flat)
+          ⊹ same (var 7 :+ var 8) (con (pos 0)) both-ways)
           refl
 
       -- and not otherwise
-      pub stays-flat : site .closed ≡ false → totalD (site .points) (tableAfter site t) ≡ totalD (site .points) table → acrossD ≡ pos 0
+      pub flat-if-stays : site .closed ≡ false → totalD (site .points) (tableAfter site t) ≡ totalD (site .points) table → acrossD ≡ pos 0
       unfolding norm
-      stays-flat chain stays =
+      flat-if-stays chain stays =
           ring-from sums (var 7) (con (pos 0))
-          (same (var 1) (var 0) (sym stays) ⊹ same (var 0) (var 1 :+ var 8) (chain-grows chain) ⊹ same (var 7 :+ var 8) (con (pos 0)) both-ways)
+          (same (var 1) (var 0) (sym stays) ⊹ same (var 0) (var 1 :+ var 8) (chain-grows chain)
+          ⊹ same (var 7 :+ var 8) (con (pos 0)) both-ways)
           refl
 
       -- ---- a ring, or a chain that is flat
 
-      -- vm as `flat` has it
-      last-point : (n : ℕ) → 1 ≤ n → v site n ≡ getD (site .ring) (n - 1) 0
-      last-point zero h = absurd (omega arith)
-      last-point (suc n) h = let back : suc n - 1 ≡ n = omega arith in rw back
-
       flat-zero : flat site ≡ true → acrossD ≡ pos 0
       unfolding flat
-      flat-zero e = rw (last-point (m site) (omega (arith, many))) (same-zero _ (is-yes _ e))
+      flat-zero e = rw (last-point site (m site) (omega (arith, many))) (same-zero _ (is-yes _ e))
 
       pub total-stays : notFlat site ≡ false → totalD (site .points) (tableAfter site t) ≡ totalD (site .points) table
       total-stays = go (site .closed) refl

@@ -129,31 +129,6 @@ module _ (coordinates : List ℕ) (count : ℕ) (table : List ℕ) (n a b : ℕ)
   unfolding flat rowD
   flat-is told is = sym (is ∙ rw (given .ready .is-closed, first-place, last-place, own-a, own-b, own-points))
 
-  -- the rows afterwards can be measured
-  module _ (rows : Rows) (rows-are : rows ≡ rowsWith (tableAfter its (chosen its))) (way : noWay its ≡ false)
-      (room : rowsAfter its ≤ maxRows) where
-    few-after : length (tableAfter its (chosen its)) ≤ maxRows
-    few-after = omega (arith, chosen-rows its (given .sound) three way)
-
-    pub rows-after : rowsIn (rows .table) (rows .n) ≡ tableAfter its (chosen its)
-    rows-after = ap (λ (rows : Rows). rowsIn (rows .table) (rows .n)) rows-are ∙ table-read (tableAfter its (chosen its))
-
-    measured-after : Measured coordinates count (rows .table) (rows .n)
-    unfolding siteOf coordinateOver
-    measured-after =
-        let size : length (rows .table) ≡ tableBytes = ap (λ (rows : Rows). length (rows .table)) rows-are
-        ∙ table-size (tableAfter its (chosen its)) few-after in
-        let number : rows .n ≡ length (tableAfter its (chosen its)) = ap (λ (rows : Rows). rows .n) rows-are in
-        let fit = keeps-fits (length (its .points)) (tableAfter its (chosen its)) (chosen-keeps its (given .sound) three way) in
-        let own = subst (λ c. T (every (numbersFit c) (tableAfter its (chosen its)))) (points-length coordinates count) fit in
-        record {
-          points-held = given .measured .points-held;
-          rows-held = omega (arith, size, number, few-after);
-          rows-most = omega (arith, number, few-after);
-          on-grid = given .measured .on-grid;
-          proper = rw rows-after own;
-        }
-
   -- ---- the answers
 
   abbrev tests : Tests
@@ -245,9 +220,30 @@ module _ (coordinates : List ℕ) (count : ℕ) (table : List ℕ) (n a b : ℕ)
       unfolding planAnswer testOf
       enough = ltb-false maxRows (rowsAfter its) (passes 14 tests numbered plan-passes)
 
+      few-after : length (tableAfter its (chosen its)) ≤ maxRows
+      few-after = omega (arith, chosen-rows its (given .sound) three has-way, enough)
+
+      rows-after : rowsIn (planned .rows .table) (planned .rows .n) ≡ tableAfter its (chosen its)
+      rows-after =
+          ap (λ (rows : Rows). rowsIn (rows .table) (rows .n)) plan-rows ∙ table-read (tableAfter its (chosen its))
+
+      -- the rows afterwards can be measured
       pub plan-measured : Measured coordinates count (planned .rows .table) (planned .rows .n)
-      plan-measured = measured-after (planned .rows) plan-rows has-way enough
+      unfolding siteOf coordinateOver
+      plan-measured =
+          let size : length (planned .rows .table) ≡ tableBytes = ap (λ (rows : Rows). length (rows .table)) plan-rows
+          ∙ table-size (tableAfter its (chosen its)) few-after in
+          let number : planned .rows .n ≡ length (tableAfter its (chosen its)) = ap (λ (rows : Rows). rows .n) plan-rows in
+          let fit = keeps-fits (length (its .points)) (tableAfter its (chosen its)) (chosen-keeps its (given .sound) three has-way) in
+          let own = subst (λ c. T (every (numbersFit c) (tableAfter its (chosen its)))) (points-length coordinates count) fit in
+          record {
+            points-held = given .measured .points-held;
+            rows-held = omega (arith, size, number, few-after);
+            rows-most = omega (arith, number, few-after);
+            on-grid = given .measured .on-grid;
+            proper = rw rows-after own;
+          }
 
       pub plan-after : patchIn coordinates count (planned .rows .table) (planned .rows .n) ≡ patchAfter its
       unfolding patchAfter siteOf
-      plan-after = rw (rows-after (planned .rows) plan-rows has-way enough)
+      plan-after = rw rows-after
