@@ -1,4 +1,4 @@
--- Demand 3. Of the answers 16 alone is left under its premises. It is given exactly when each tree has a row no better than now; and the
+-- Demand 3. Of the refusals 16 alone is left under its premises. It is given exactly when each tree has a row no better than now; and the
 -- chosen tree is the best. What is so of trees is so of all that cuts the ring.
 use Prim.Native.Nat.{ℕ, _-_, _≤_}
 use mathlib.Core.Bool.{Bool, false, not}

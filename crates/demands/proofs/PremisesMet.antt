@@ -7,7 +7,6 @@ use native.Mathlib.Omega.{arith}
 use borrow.Author.Tests.{ltb-false, not-false}
 use lib.IntN.{pos}
 use lib.ListN.{length, getD}
-use Rattle.lists.proofs.Tests.{is-yes}
 use Rattle.lists.proofs.Counts.{some-counted}
 use Rattle.volume.specs.Volume.{D}
 use Rattle.rows.specs.Rows.{holdsEdge}
@@ -17,7 +16,7 @@ use Rattle.block.proofs.RightBlocks.{right-block}
 use Rattle.ring.specs.Ring.{Site, siteOf, m, flat, lengthWrong, notFlat}
 use Rattle.ring.proofs.EdgeGoesRound.{tests-passed, numbers-right, site-goes-round}
 use Rattle.triangulation.specs.Triangulation.{Tri, triangles, rowsAfter}
-use Rattle.triangulation.proofs.TotalStays.{same-zero}
+use Rattle.triangulation.proofs.TotalStays.{flat-zero}
 use Rattle.triangulation.proofs.WholeRing.{RingWay}
 use Rattle.calls.specs.Removing.{noRoom, Sound}
 use Rattle.calls.proofs.SoundEdges.{opens-rule, some-removed}
@@ -63,9 +62,8 @@ module _ (block : List ℕ) (e f : ℕ) (sound : Sound block e f) where
 pub flat-chain : (site : Site) → notFlat site ≡ false → site .closed ≡ false
     → let at = place (site .points) in
     D (at (site .a)) (at (site .b)) (at (getD (site .ring) 0 0)) (at (getD (site .ring) (m site - 1) 0)) ≡ pos 0
-unfolding flat
 flat-chain site h open-one =
-    same-zero _ (is-yes (flat site) (ap (λ c. c || flat site) (sym open-one) ∙ not-false (site .closed || flat site) h))
+    flat-zero site (ap (λ c. c || flat site) (sym open-one) ∙ not-false (site .closed || flat site) h)
 
 -- so with 13, 19 and 14 passed, and with a tree that keeps the mesh rule, the third demand's premises are met
 pub premises-by : (block out : List ℕ) (e f : ℕ) → Sound block e f → length out ≡ blockBytes

@@ -64,7 +64,7 @@ module _ (block out : List ℕ) (e f : ℕ) (held : Held block out e f) where
   ends-apart i = held .ends .apart (omega arith)
 
   some-held : (l : Link) × List·Memᴰ l its
-  some-held = held-link low high count (patch .rows) rule (held .some-row)
+  some-held = held-link low high (patch .rows) (held .some-row)
 
   some-its : 0 < length its
   some-its = in-length its (some-held .1)

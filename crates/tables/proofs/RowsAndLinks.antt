@@ -120,23 +120,24 @@ chain-less closed vs e = rw e
 pub ring-full : (closed : Bool) (vs : List ℕ) → closed ≡ true → pairCount closed vs ≡ length vs
 ring-full closed vs e = rw e (omega arith)
 
--- where some row holds the edge, it has a link, and so there is a pair of neighbours
-module _ (a b points : ℕ) (rows : List Row) (rule : T (keepsMeshRule points rows)) (held : T (any (holdsEdge a b) rows)) where
-  pub held-link : (l : Link) × List·Memᴰ l (linksOf a b rows)
-  held-link =
-      let (row, m, h) = any-e (holdsEdge a b) rows held in
-      (link a b row, Memᴰ·map (link a b) (those-i (holdsEdge a b) rows m h))
+-- where some row holds the edge, it has a link
+pub held-link : (a b : ℕ) (rows : List Row) → T (any (holdsEdge a b) rows) → (l : Link) × List·Memᴰ l (linksOf a b rows)
+held-link a b rows held =
+    let (row, m, h) = any-e (holdsEdge a b) rows held in
+    (link a b row, Memᴰ·map (link a b) (those-i (holdsEdge a b) rows m h))
 
-  pub held-pair : (a ≡ b → ⊥) → (closed : Bool) (vs : List ℕ) → Round rows a b closed vs → 0 < pairCount closed vs
-  held-pair apart closed vs round =
-      let (l, m) = held-link in
-      omega (
-        arith,
-        count-some (reads a b (l .0) (l .1)) rows (linked-read a b points rows rule apart (l .0) (l .1) m),
-        round .one-row-each (l .0) (l .1),
-        count-most (isPair (l .0) (l .1)) (neighbours closed vs),
-        map-numbers-length (pairAt vs) (pairCount closed vs),
-      )
+-- and so there is a pair of neighbours
+pub held-pair : (a b points : ℕ) (rows : List Row) → T (keepsMeshRule points rows) → T (any (holdsEdge a b) rows) → (a ≡ b → ⊥)
+    → (closed : Bool) (vs : List ℕ) → Round rows a b closed vs → 0 < pairCount closed vs
+held-pair a b points rows rule held apart closed vs round =
+    let (l, m) = held-link a b rows held in
+    omega (
+      arith,
+      count-some (reads a b (l .0) (l .1)) rows (linked-read a b points rows rule apart (l .0) (l .1) m),
+      round .one-row-each (l .0) (l .1),
+      count-most (isPair (l .0) (l .1)) (neighbours closed vs),
+      map-numbers-length (pairAt vs) (pairCount closed vs),
+    )
 
 -- ---- what is carried along the links
 

@@ -33,13 +33,20 @@ use Rattle.triangulation.proofs.NewRowsProper.{next-link, last-link, al
 use Rattle.triangulation.proofs.TotalOfPiece.{total-append, turned-over, linkD, chainD, total-piece}
 
 -- the whole number 0
-pub same-zero : (x : ℤ) → T (sameZ x (pos 0)) → x ≡ pos 0
+same-zero : (x : ℤ) → T (sameZ x (pos 0)) → x ≡ pos 0
 same-zero (pos n) h =
     let none : n ≡ 0 = omega (arith, nltb→le 0 n (neither-r (ltb n 0) (ltb 0 n) h)) in
     ap pos none
 same-zero (negsuc n) h = absurd h
 
--- vm as the definitions of flatness have it
+-- the test of flatness is what it says: D(a,b,v1,vm) is 0
+pub flat-zero : (site : Site) → flat site ≡ true
+    → let at = place (site .points) in
+    D (at (site .a)) (at (site .b)) (at (getD (site .ring) 0 0)) (at (getD (site .ring) (m site - 1) 0)) ≡ pos 0
+unfolding flat
+flat-zero site e = same-zero _ (is-yes (flat site) e)
+
+-- vm as flatness has it
 pub last-point : (site : Site) (n : ℕ) → 1 ≤ n → v site n ≡ getD (site .ring) (n - 1) 0
 last-point site zero h = absurd (omega arith)
 last-point site (suc n) h = let back : suc n - 1 ≡ n = omega arith in rw back
@@ -246,14 +253,11 @@ module _ (site : Site) where
 
       -- ---- a ring, or a chain that is flat
 
-      flat-zero : flat site ≡ true → acrossD ≡ pos 0
-      unfolding flat
-      flat-zero e = rw (last-point site (m site) (omega (arith, many))) (same-zero _ (is-yes _ e))
-
       pub total-stays : notFlat site ≡ false → totalD (site .points) (tableAfter site t) ≡ totalD (site .points) table
       total-stays = go (site .closed) refl
         where
           go : (closed : Bool) → site .closed ≡ closed → not (closed || flat site) ≡ false
               → totalD (site .points) (tableAfter site t) ≡ totalD (site .points) table
           go true e h = ring-stays e
-          go false e h = flat-stays e (flat-zero (not-false (flat site) h))
+          go false e h =
+              flat-stays e (rw (last-point site (m site) (omega (arith, many))) (flat-zero site (not-false (flat site) h)))
