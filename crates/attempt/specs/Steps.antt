@@ -1,20 +1,18 @@
--- What only contracts of inner functions and proofs say: the outcome of a removal in a block that opens, before anything is written.
-use Prim.Native.Nat.{ℕ, zero, suc}
-use mathlib.Core.Bool.{cond}
-use mathlib.Core.List.{List, [], _++_}
-use lib.Dec.{eqb}
-use Rattle.page.specs.Page.{shown, pageRow}
-use Rattle.layout.specs.Layout.{Patch, fieldsOf}
-use Rattle.answers.specs.Answers.{firstRefusal}
-use Rattle.tally.specs.Tally.{worstOfPatch}
-use Rattle.ring.specs.Ring.{Site, siteOf, orChains, edgeTests, ringWith}
-use Rattle.triangulation.specs.Triangulation.{tableAfter}
-use Rattle.triangulation.specs.Best.{chosen}
-use Rattle.calls.specs.declared.Removal.the-variants.{Done, Refused}
-use Rattle.calls.specs.declared.Removed.{Removed}
-use Rattle.calls.specs.Removing.{patchAfter, removalTests}
-use Rattle.replacement.specs.Steps.{rowsWith}
-use Rattle.attempt.specs.declared.Outcome.{Outcome}
+-- What only contracts of inner functions and proofs say: a removal in a block that opens, before anything is carried out.
+use Prim.Native.Nat.{ℕ, _<_, _≤_, min, max}
+use mathlib.Core.Bool.{Bool, false}
+use mathlib.Core.List.{List, _++_}
+use mathlib.Core.Path.{_≡_}
+use Rattle.layout.specs.Layout.{maxRows, pointCount, rowCount, coordinatesOf, tableOf, fieldsOf}
+use Rattle.answers.specs.Answers.{firstRefusal, answerOf}
+use Rattle.ring.specs.declared.Ring.{Ring}
+use Rattle.ring.specs.Ring.{Site, siteOf, orChains, edgeTests}
+use Rattle.triangulation.specs.Triangulation.{rowsAfter}
+use Rattle.triangulation.specs.Steps.{siteIn}
+use Rattle.calls.specs.Removing.{noWay, removalTests}
+use Rattle.edge.specs.Steps.{Ringed}
+use Rattle.replacement.specs.Steps.{StandFor}
+use Rattle.attempt.specs.declared.Tried.{Tried}
 
 -- answers 9 to 16 and 19, tested from the top: those of a removal in a block that opens
 unfoldable pub attemptAnswer : List ℕ → ℕ → ℕ → ℕ
@@ -22,26 +20,19 @@ attemptAnswer block e f =
     let site = siteOf (fieldsOf block) e f in
     firstRefusal (edgeTests orChains site e f ++ removalTests site)
 
--- a refusal returns its number and nothing else
-abbrev pub noRemoved : ℕ → Removed
-noRemoved number = record { removal = Refused number; ring = ringWith [] }
+-- the edge between e and f as a site, its ends in order
+abbrev pub edgeSite : List ℕ → ℕ → ℕ → Site
+edgeSite block e f = siteIn (coordinatesOf block) (pointCount block) (tableOf block) (rowCount block) (min e f) (max e f)
 
-abbrev pub noOutcome : ℕ → Outcome
-noOutcome number = record { removed = noRemoved number; rows = rowsWith [] }
+-- The edge has its ring or chain, with room and an admissible triangulation, and the apexes stand for the chosen one.
+pub record Replaceable (block : List ℕ) (e f : ℕ) (closed : Bool) (ring : Ring) (apexes : List ℕ) : Type 0 where
+  pub ends : (e < 256) × (f < 256)
+  pub ringed : Ringed (coordinatesOf block) (pointCount block) (tableOf block) (rowCount block) (min e f) (max e f) closed ring
+  pub way : noWay (edgeSite block e f) ≡ false
+  pub room : rowsAfter (edgeSite block e f) ≤ maxRows
+  pub stand : StandFor (edgeSite block e f) apexes
 
--- what a removal gives by its answer: the page row and the ring, or the chain, only with answer 0
-unfoldable pub removedWith : ℕ → Patch → Site → Removed
-removedWith answer patch site =
-    let page = pageRow (shown (worstOfPatch patch)) (shown (worstOfPatch (patchAfter site))) in
-    elim answer [ zero ↦ record { removal = Done page; ring = ringWith (site .ring) } | suc n ↦ noRemoved (suc n) ]
-
--- that and, with answer 0, the rows afterwards
-unfoldable pub outcomeOf : List ℕ → ℕ → ℕ → Outcome
-outcomeOf block e f =
-    let patch = fieldsOf block in
-    let site = siteOf patch e f in
-    let answer = attemptAnswer block e f in
-    record {
-      removed = removedWith answer patch site;
-      rows = rowsWith (cond (eqb answer 0) (tableAfter site (chosen site)) []);
-    }
+-- The answer and, with answer 0, what the replacement asks for.
+pub record Attempts (block : List ℕ) (e f : ℕ) (tried : Tried) : Type 0 where
+  pub answer : tried .answer ≡ answerOf (attemptAnswer block e f)
+  pub done : attemptAnswer block e f ≡ 0 → Replaceable block e f (tried .closed) (tried .ring) (tried .apexes)

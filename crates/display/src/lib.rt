@@ -13,7 +13,6 @@ use layout::BODY_BYTES;
 use layout::MAX_ROWS;
 use layout::POINTS_AT;
 use layout::ROWS_AT;
-use output::Rows;
 use page::PageRow;
 use page::Shown;
 
@@ -62,13 +61,20 @@ pub fn shown(block: &[u8], out: &mut [f64]) -> Answer
     answer
 }
 
-// The page row: the worst row before and after.
-pub fn page_row(coordinates: &[u8], count: usize, table: &[u8], n: usize, rows: Rows) -> PageRow
-    requires { ⌜ Measured (now coordinates) count (now table) n × Measured (now coordinates) count (rows .table) (rows .n) ⌝ }
+// The page row: the worst of the first n rows of a table, before, and of the first k of another, after.
+pub fn page_row(
+    coordinates: &[u8],
+    count: usize,
+    table: &[u8],
+    n: usize,
+    rows: &[u8],
+    k: usize,
+) -> PageRow
+    requires { ⌜ Measured (now coordinates) count (now table) n × Measured (now coordinates) count (now rows) k ⌝ }
     ensures { λ r. ⌜ r ≡ pageRow (shown (worstOfPatch (patchIn (now (coordinates .entry)) count (now (table .entry)) n)))
-        (shown (worstOfPatch (patchIn (now (coordinates .entry)) count (rows .table) (rows .n)))) ⌝ }
+        (shown (worstOfPatch (patchIn (now (coordinates .entry)) count (now (rows .entry)) k))) ⌝ }
 {
     let before = tally::worst_row(coordinates, count, table, n);
-    let after = tally::worst_row(coordinates, count, &rows.table, rows.n);
+    let after = tally::worst_row(coordinates, count, rows, k);
     PageRow::of(Shown::of(before), Shown::of(after))
 }

@@ -1,18 +1,21 @@
--- The plan of a 3-2 flip in a block that opens: the edge's refusal, 13, 15, or the rows afterwards.
-use Prim.Native.Nat.{ℕ, suc, _≤_, min, max}
+-- The 3-2 flip of an edge in a block that opens: the edge's refusal, 13, 15, or the block afterwards.
+use Prim.Native.Nat.{ℕ, suc, _-_, _≤_, min, max}
 use mathlib.Core.Bool.{Bool, true, false, cond, not}
-use mathlib.Core.List.{List, [], _∷_, _++_}
+use mathlib.Core.List.{List, [], _∷_, _++_, append-assoc}
 use mathlib.Core.Path.{_≡_, refl, sym, ap, _∙_, subst}
 use native.Mathlib.Omega.{arith}
 use borrow.Author.Tests.{eq-eqb, ne-eqb}
 use lib.Dec.{T, eqb}
+use lib.ListN.{length, take, drop, set, replicate}
 use Rattle.lists.specs.Lists.{every}
 use Rattle.lists.proofs.Lists.{those-split}
 use Rattle.quality.specs.declared.Quality.{Quality}
+use Rattle.rows.specs.declared.Row.{Row}
 use Rattle.rows.specs.Rows.{holdsEdge}
+use Rattle.answers.specs.declared.Answer.{Answer}
 use Rattle.answers.specs.declared.Answer.the-variants.{Done, Refused}
-use Rattle.layout.specs.Layout.{maxRows, pointCount, rowCount, coordinatesOf, tableOf, fieldsOf}
-use Rattle.answers.specs.Answers.{Tests, firstRefusal}
+use Rattle.layout.specs.Layout.{blockBytes, bodyBytes, rowsAt, maxRows, pointCount, rowCount, coordinatesOf, tableOf, fieldsOf, sealed}
+use Rattle.answers.specs.Answers.{Tests, firstRefusal, answerOf}
 use Rattle.block.specs.Opening.{openAnswer}
 use Rattle.answers.proofs.ByNumber.{unlike, testOf, before, stops, front-passed}
 use Rattle.layout.proofs.PatchWritten.{rows-counted}
@@ -23,20 +26,24 @@ use Rattle.ring.specs.Ring.{Site, siteOf, m, minRing, ringsAlone, edgeTests, le
 use Rattle.ring.specs.SoundRing.{SoundRing}
 use Rattle.ring.proofs.EdgeGoesRound.{wrong-not-three}
 use Rattle.cells.specs.declared.Best.the-variants.{Mark, Worst}
-use Rattle.triangulation.specs.Triangulation.{rowsAfter}
+use Rattle.triangulation.specs.Triangulation.{tableAfter, rowsAfter}
+use Rattle.triangulation.specs.Best.{chosen}
 use Rattle.triangulation.specs.Steps.{siteIn}
-use Rattle.cells.specs.Steps.{bestOf}
-use Rattle.calls.specs.Removing.{Sound}
-use Rattle.calls.specs.Flipping.{flip32Tests}
+use Rattle.cells.specs.Steps.{bestOf, cells}
+use Rattle.output.specs.Steps.{tableBytes, tableWith}
+use Rattle.output.proofs.BlockFilledIn.{filled-in}
+use Rattle.calls.specs.Removing.{Sound, blockTests, noWay, patchAfter}
+use Rattle.calls.specs.Flipping.{flip32Tests, flip32Answer, flip32Bytes}
+use Rattle.calls.proofs.CallTests.{block-left}
+use Rattle.calls.proofs.BestDecides.{chosen-rows}
 use Rattle.calls.proofs.HandedOn.{Number}
 use Rattle.calls.proofs.SoundEdges.{sound-site, two-go}
 use Rattle.edge.specs.Steps.{edgeAnswer, edgeFound}
 use Rattle.edge.proofs.EdgeRinged.{found-refused, own-ring, edge-one, edge-sound, own-site}
-use Rattle.replacement.specs.declared.Carried.{Carried}
-use Rattle.replacement.specs.declared.Plan.{Plan}
-use Rattle.replacement.specs.Steps.{Carries, noPlan, planWith}
-use Rattle.replacement.proofs.CarriedMark.{marked, unmarked}
-use Rattle.edge_flip.specs.Steps.{flipAnswer, flipOf}
+use Rattle.replacement.specs.declared.Way.{Way}
+use Rattle.replacement.specs.Steps.{BestWay, Carriable}
+use Rattle.replacement.proofs.MarkOfWay.{marked, unmarked}
+use Rattle.edge_flip.specs.Steps.{flipAnswer}
 
 -- a refusal stands, if the last test is only stricter and others follow it
 refusal-stands : (xs : Tests) (n k : ℕ) (b c : Bool) (rest : Tests) → (b ≡ true → c ≡ true) → firstRefusal (xs ++ (n, b) ∷ []) ≡ suc k
@@ -65,12 +72,20 @@ three-room block e f sound three =
       few-rows block (sound .opens),
     )
 
-module _ (block : List ℕ) (e f : ℕ) (opens : openAnswer block ≡ 0) where
+module _ (block out : List ℕ) (e f : ℕ) where
   abbrev site : Site
   site = siteOf (fieldsOf block) e f
 
+  abbrev after : List Row
+  after = tableAfter site (chosen site)
+
   abbrev edge : Tests
   edge = edgeTests ringsAlone site e f
+
+  -- the lengths and the opening, then the flip's own
+  pub in-stages : flip32Answer block out e f ≡ firstRefusal (blockTests block out ++ (edge ++ flip32Tests site))
+  unfolding flip32Answer
+  in-stages = ap firstRefusal (append-assoc (blockTests block out) edge (flip32Tests site))
 
   edge-numbered : T (unlike 0 edge)
   unfolding edgeTests every
@@ -82,72 +97,117 @@ module _ (block : List ℕ) (e f : ℕ) (opens : openAnswer block ≡ 0) where
 
   -- ---- a refusal
 
-  refused-plan : (n : ℕ) → Number (flipAnswer block e f) n → noPlan (Refused n) ≡ flipOf block e f
-  unfolding planWith
-  refused-plan n k = rw (k .answer, k .handed, ne-eqb (suc (k .less)) 0 (λ z. omega arith))
+  -- The answer is told, and the output keeps its bytes.
+  pub record Kept (answer : Answer) : Type 0 where
+    pub told : answer ≡ answerOf (flip32Answer block out e f)
+    pub same : out ≡ flip32Bytes block out e f
 
-  -- answers 9 to 13
-  edge-stands : (k : ℕ) → edgeAnswer ringsAlone block e f ≡ suc k → flipAnswer block e f ≡ suc k
-  unfolding edgeAnswer flipAnswer flip32Tests
-  edge-stands k h =
-      refusal-stands edge 13 k (lengthWrong site) (not (eqb (m site) minRing)) _ (λ q. ap not (wrong-not-three site q)) h
+  pub kept : (n : ℕ) → Number (flip32Answer block out e f) n → Kept (Refused n)
+  unfolding flip32Bytes
+  kept n k = record {
+    told = ap Refused (k .handed) ∙ sym (ap answerOf (k .answer));
+    same = rw (k .answer, ne-eqb (suc (k .less)) 0 (λ z. omega arith));
+  }
 
-  pub edge-refuses : (found : Found) → found ≡ edgeFound ringsAlone block e f → (n : ℕ) → found .answer ≡ Refused n
-      → noPlan (found .answer) ≡ flipOf block e f
-  edge-refuses found i n h =
-      let k = found-refused ringsAlone block e f opens found i n h in
-      ap noPlan h ∙ refused-plan n (record { less = k .less; answer = edge-stands (k .less) (k .answer); handed = k .handed })
-
-  -- ---- behind the edge
-
-  module _ (found : Found) (i : found ≡ edgeFound ringsAlone block e f) (h : found .answer ≡ Done) where
-    -- the flip's own answers are left
-    flip-left : flipAnswer block e f ≡ firstRefusal (flip32Tests site)
+  module _ (opens : openAnswer block ≡ 0) (size : length out ≡ blockBytes) (found : Found) (i : found ≡ edgeFound ringsAlone block e f) where
+    same-answer : flip32Answer block out e f ≡ flipAnswer block e f
     unfolding flipAnswer
-    flip-left = front-passed edge (flip32Tests site) edge-numbered (edge-one ringsAlone block e f opens found i h)
+    same-answer = in-stages ∙ block-left block out (edge ++ flip32Tests site) opens size
 
-    ring-length : found .ring .m ≡ m site
-    ring-length = ap (λ (r : Ring). r .m) (own-ring ringsAlone block e f opens found i h)
+    refusal : (k : ℕ) → flipAnswer block e f ≡ suc k → Kept (Refused (suc k))
+    refusal k h = kept (suc k) (record { less = k; answer = same-answer ∙ h; handed = refl })
 
-    pub not-three : (found .ring .m ≡ minRing → ⊥) → noPlan (Refused 13) ≡ flipOf block e f
-    unfolding flip32Tests firstRefusal before testOf
-    not-three d =
-        let other = ap not (ne-eqb (m site) minRing (λ q. d (ring-length ∙ q))) in
-        refused-plan 13 (record { less = 12; answer = flip-left ∙ stops 13 (flip32Tests site) flip-numbered refl other; handed = refl })
+    -- answers 9 to 13
+    edge-stands : (k : ℕ) → edgeAnswer ringsAlone block e f ≡ suc k → flipAnswer block e f ≡ suc k
+    unfolding edgeAnswer flipAnswer flip32Tests
+    edge-stands k h =
+        refusal-stands edge 13 k (lengthWrong site) (not (eqb (m site) minRing)) _ (λ q. ap not (wrong-not-three site q)) h
 
-    module _ (three : found .ring .m ≡ minRing) (a b : ℕ) (p : a ≡ min e f) (q : b ≡ max e f) where
-      abbrev its : Site
-      its = siteIn (coordinatesOf block) (pointCount block) (tableOf block) (rowCount block) a b
+    pub edge-refuses : (n : ℕ) → found .answer ≡ Refused n → Kept (found .answer)
+    edge-refuses n h =
+        let k = found-refused ringsAlone block e f opens found i n h in
+        subst Kept (sym (h ∙ ap Refused (k .handed))) (refusal (k .less) (edge-stands (k .less) (k .answer)))
 
-      its-site : its ≡ site
-      its-site = own-site ringsAlone block e f opens found i h a b p q
+    -- ---- behind the edge
 
-      three-points : m site ≡ minRing
-      three-points = sym ring-length ∙ three
+    module _ (h : found .answer ≡ Done) where
+      -- the flip's own answers are left
+      flip-left : flipAnswer block e f ≡ firstRefusal (flip32Tests site)
+      unfolding flipAnswer
+      flip-left = front-passed edge (flip32Tests site) edge-numbered (edge-one ringsAlone block e f opens found i h)
 
-      sound : SoundRing site
-      sound = sound-site block e f (edge-sound ringsAlone block e f opens found i h)
+      ring-length : found .ring .m ≡ m site
+      ring-length = ap (λ (r : Ring). r .m) (own-ring ringsAlone block e f opens found i h)
 
-      pub has-room : rowsAfter its ≤ maxRows
-      has-room =
-          subst (λ (s : Site). rowsAfter s ≤ maxRows) (sym its-site)
-          (three-room block e f (edge-sound ringsAlone block e f opens found i h) three-points)
+      pub not-three : (found .ring .m ≡ minRing → ⊥) → Kept (Refused 13)
+      unfolding flip32Tests firstRefusal before testOf
+      not-three d =
+          let other = ap not (ne-eqb (m site) minRing (λ q. d (ring-length ∙ q))) in
+          refusal 12 (flip-left ∙ stops 13 (flip32Tests site) flip-numbered refl other)
 
-      module _ (way : Carried) (carried : Carries its way) where
-        carries : Carries site way
-        carries = subst (λ (s : Site). Carries s way) its-site carried
+      module _ (three : found .ring .m ≡ minRing) (a b : ℕ) (p : a ≡ min e f) (q : b ≡ max e f) where
+        abbrev its : Site
+        its = siteIn (coordinatesOf block) (pointCount block) (tableOf block) (rowCount block) a b
 
-        pub no-way : way .best ≡ Mark → noPlan (Refused 15) ≡ flipOf block e f
-        unfolding flip32Tests firstRefusal before testOf
-        no-way mark =
-            let none = marked site sound (omega (arith, three-points)) way carries mark in
-            let fifteen = stops 15 (flip32Tests site) flip-numbered (rw (eq-eqb (m site) minRing three-points)) none in
-            refused-plan 15 (record { less = 14; answer = flip-left ∙ fifteen; handed = refl })
+        its-site : its ≡ site
+        its-site = own-site ringsAlone block e f opens found i h a b p q
 
-        pub flip-done : (best : Quality) → way .best ≡ Worst best
-            → _≡_ {A = Plan} (record { answer = found .answer; rows = way .rows }) (flipOf block e f)
-        unfolding planWith flip32Tests firstRefusal
-        flip-done best is =
-            let some-way = unmarked site sound (omega (arith, three-points)) way carries best is in
-            let zero-answer : flipAnswer block e f ≡ 0 = flip-left ∙ rw (eq-eqb (m site) minRing three-points, some-way) in
-            rw (h, carries .rows best (ap bestOf is), zero-answer)
+        three-points : m site ≡ minRing
+        three-points = sym ring-length ∙ three
+
+        sound : SoundRing site
+        sound = sound-site block e f (edge-sound ringsAlone block e f opens found i h)
+
+        room : rowsAfter site ≤ maxRows
+        room = three-room block e f (edge-sound ringsAlone block e f opens found i h) three-points
+
+        module _ (way : Way) (is-best : BestWay its way) where
+          best-way : BestWay site way
+          best-way = subst (λ (s : Site). BestWay s way) its-site is-best
+
+          pub no-way : way .best ≡ Mark → Kept (Refused 15)
+          unfolding flip32Tests firstRefusal before testOf
+          no-way mark =
+              let none = marked site sound (omega (arith, three-points)) way best-way mark in
+              refusal 14 (flip-left ∙ stops 15 (flip32Tests site) flip-numbered (rw (eq-eqb (m site) minRing three-points)) none)
+
+          module _ (best : Quality) (is : way .best ≡ Worst best) where
+            some-way : noWay site ≡ false
+            some-way = unmarked site sound (omega (arith, three-points)) way best-way best is
+
+            zero-answer : flip32Answer block out e f ≡ 0
+            unfolding flip32Tests firstRefusal
+            zero-answer = same-answer ∙ flip-left ∙ rw (eq-eqb (m site) minRing three-points, some-way)
+
+            pub carriable : {rows : List ℕ} → length (way .apexes) ≡ cells → rows ≡ replicate tableBytes 0 → Carriable its (way .apexes) rows
+            carriable whole empty = record {
+              room = subst (λ (s : Site). rowsAfter s ≤ maxRows) (sym its-site) room;
+              whole = whole;
+              stand = is-best .apexes best (ap bestOf is);
+              empty = empty;
+            }
+
+            few : length after ≤ maxRows
+            few = omega (arith, chosen-rows site sound (omega (arith, three-points)) some-way, room)
+
+            module _ (n : ℕ) (n-is : n ≡ length (tableAfter its (chosen its))) where
+              own-number : n ≡ length after
+              own-number = n-is ∙ ap (λ (s : Site). length (tableAfter s (chosen s))) its-site
+
+              pub room-for : n ≤ maxRows
+              room-for = omega (arith, own-number, few)
+
+              pub done-answer : found .answer ≡ answerOf (flip32Answer block out e f)
+              done-answer = h ∙ sym (ap answerOf zero-answer)
+
+              -- the block that was begun, with the rows in their place, finished
+              pub done-bytes : (rows begun two done : List ℕ) → rows ≡ tableWith (tableAfter its (chosen its))
+                  → begun ≡ take rowsAt block ++ (replicate tableBytes 0 ++ drop bodyBytes out)
+                  → two ≡ take rowsAt begun ++ (rows ++ drop (bodyBytes - rowsAt) (drop rowsAt begun))
+                  → done ≡ sealed (take bodyBytes (set two 2 n))
+                  → done ≡ flip32Bytes block out e f
+              unfolding flip32Bytes patchAfter siteOf
+              done-bytes rows begun two done r b t d =
+                  rw zero-answer
+                  (filled-in block opens (drop bodyBytes out) begun b out size after few rows
+                  (r ∙ ap (λ (s : Site). tableWith (tableAfter s (chosen s))) its-site) n own-number two t done d)

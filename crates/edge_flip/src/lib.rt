@@ -1,7 +1,10 @@
 // The 3-2 flip of an edge in a block that opens: three rows round it become two.
 ghost use mathlib.Core.Path.{_≡_};
+ghost use lib.ListN.{length};
+ghost use Rattle.layout.specs.Layout.{blockBytes};
+ghost use Rattle.answers.specs.Answers.{answerOf};
 ghost use Rattle.block.specs.Opening.{openAnswer};
-ghost use Rattle.edge_flip.specs.Steps.{flipOf};
+ghost use Rattle.calls.specs.Flipping.{flip32Answer, flip32Bytes};
 use answers::Answer;
 use cells::Best;
 use edge::edge_at;
@@ -10,43 +13,52 @@ use edge::smaller;
 use layout::BODY_BYTES;
 use layout::POINTS_AT;
 use layout::ROWS_AT;
-use replacement::Plan;
+use replacement::best_way;
 use replacement::carry_out;
-use replacement::no_plan;
 
 // The m of a 3-2 flip.
 const THREE: u8 = 3;
 
-// Its answer and its rows afterwards; nothing is written.
-pub fn flip_plan(block: &[u8], e: usize, f: usize) -> Plan
-    requires { ⌜ openAnswer (now block) ≡ 0 ⌝ }
-    ensures { λ r. ⌜ r ≡ flipOf (now (block .entry)) e f ⌝ }
+// Writes the block afterwards, or refuses and leaves every output byte.
+pub fn flip_edge(block: &[u8], e: usize, f: usize, out: &mut [u8]) -> Answer
+    requires { ⌜ (openAnswer (now block) ≡ 0) × (length (now out) ≡ blockBytes) ⌝ }
+    ensures answer { λ r. ⌜ r ≡ answerOf (flip32Answer (now (block .entry)) (now (out .entry)) e f) ⌝ }
+    ensures bytes { λ r. ⌜ now (out .exit) ≡ flip32Bytes (now (block .entry)) (now (out .entry)) e f ⌝ }
 {
     let found = edge_at(block, e, f, false);
     let answer = found.answer;
     let ring = found.ring;
     let Answer::Done = answer else {
-        return no_plan(answer);
+        return answer;
     };
     if ring.m != THREE {
-        return no_plan(Answer::Refused(answers::RING_LENGTH));
+        return Answer::Refused(answers::RING_LENGTH);
     }
     let count = block[1] as usize;
     let n = block[2] as usize;
-    let way = carry_out(
-        &block[POINTS_AT..ROWS_AT],
+    let coordinates = &block[POINTS_AT..ROWS_AT];
+    let table = &block[ROWS_AT..BODY_BYTES];
+    let a = smaller(e, f);
+    let b = larger(e, f);
+    let way = best_way(coordinates, count, table, n, a, b, found.closed, ring);
+    let best = way.best;
+    let apexes = way.apexes;
+    let Best::Worst(_) = best else {
+        return Answer::Refused(answers::BLOCKED);
+    };
+    output::begin(block, out);
+    let end = carry_out(
+        coordinates,
         count,
-        &block[ROWS_AT..BODY_BYTES],
+        table,
         n,
-        smaller(e, f),
-        larger(e, f),
+        a,
+        b,
         found.closed,
         ring,
+        &apexes,
+        &mut out[ROWS_AT..BODY_BYTES],
     );
-    let best = way.best;
-    let rows = way.rows;
-    let Best::Worst(_) = best else {
-        return no_plan(Answer::Refused(answers::BLOCKED));
-    };
-    Plan { answer, rows }
+    output::finish(out, end);
+    answer
 }

@@ -4,8 +4,8 @@ use Prim.Native.Nat.{ℕ, _+_, _-_, _*_, _≤_}
 use mathlib.Core.List.{List, [], _∷_, _++_, flatMap, append-nil, append-assoc}
 use mathlib.Core.Path.{_≡_, sym, ap, _∙_}
 use native.Mathlib.Omega.{arith}
-use lib.ListN.{length, take, drop, set, replicate, length-append, length-take, take-append-drop, drop-of-length-le}
-use lib.Seq.{take-at, take-take, set-append-left, length-take-le}
+use lib.ListN.{length, take, drop, set, replicate, length-append, length-take, length-drop, take-append-drop, drop-of-length-le}
+use lib.Seq.{take-at, take-take, drop-at, drop-drop, set-append-left, length-take-le}
 use Rattle.volume.specs.Volume.{pointBytes}
 use Rattle.rows.specs.declared.Row.{Row}
 use Rattle.rows.specs.Rows.{rowSize, rowBytes, rowsIn}
@@ -78,43 +78,59 @@ module _ (block rows : List ℕ) (n : ℕ) (out : List ℕ) (writable : Writable
   abbrev top : List ℕ
   top = head (count block (writable .opens)) n ++ points block (writable .opens)
 
-  -- bytes 0 to 207 with the number of rows, and what stood behind them
-  top-written : set (take rowsAt block ++ drop rowsAt out) 2 n ≡ top ++ drop rowsAt out
-  top-written =
+  -- bytes 0 to 207 with the number of rows, and what stands behind them
+  top-written : (behind : List ℕ) → set (take rowsAt block ++ behind) 2 n ≡ top ++ behind
+  top-written behind =
       let size = right-block block (writable .opens) .size in
-      set-append-left (take rowsAt block) (drop rowsAt out) 2 n (omega (arith, length-take-le rowsAt block (omega arith)))
-      ∙ ap (λ front. front ++ drop rowsAt out) (front-set block (writable .opens) n)
+      set-append-left (take rowsAt block) behind 2 n (omega (arith, length-take-le rowsAt block (omega arith)))
+      ∙ ap (λ front. front ++ behind) (front-set block (writable .opens) n)
 
   -- the first 508 bytes written
   body-whole : top ++ rows ≡ bodyOf (patchWith (fieldsOf block .points) (rowsIn rows n))
   unfolding bodyOf
   body-whole = rw (rows-length, table-whole rows n (writable .size) (writable .few) (writable .zeros))
 
-  -- the front copied, the number of rows stored, the table copied behind it
-  pub body-afterwards : (one table three : List ℕ) → one ≡ take rowsAt block ++ drop (length (take rowsAt block)) out
-      → table ≡ rows ++ drop (length rows) (part rowsAt bodyBytes (set one 2 n))
-      → three ≡ take rowsAt (set one 2 n) ++ (table ++ drop (bodyBytes - rowsAt) (drop rowsAt (set one 2 n)))
-      → take bodyBytes three ≡ bodyOf (patchWith (fieldsOf block .points) (rowsIn rows n))
-  body-afterwards one table three e1 e2 e3 =
+  -- the front and the table behind it, finished
+  pub block-finished : (rest done : List ℕ) → done ≡ sealed (take bodyBytes (set (take rowsAt block ++ (rows ++ rest)) 2 n))
+      → done ≡ bytesOf (patchWith (fieldsOf block .points) (rowsIn rows n))
+  block-finished rest done is =
+      let top-size = front-size block (writable .opens) n in
+      let body-size = length-append top rows in
+      is
+      ∙ ap (λ bytes. sealed (take bodyBytes bytes)) (top-written (rows ++ rest) ∙ sym (append-assoc top rows rest))
+      ∙ ap sealed (take-at (top ++ rows) rest bodyBytes (omega (arith, writable .size)) ∙ body-whole)
+
+  -- the front copied and the table copied behind it
+  pub both-copied : (one table two : List ℕ) → one ≡ take rowsAt block ++ drop (length (take rowsAt block)) out
+      → table ≡ rows ++ drop (length rows) (part rowsAt bodyBytes one)
+      → two ≡ take rowsAt one ++ (table ++ drop (bodyBytes - rowsAt) (drop rowsAt one))
+      → two ≡ take rowsAt block ++ (rows ++ drop (bodyBytes - rowsAt) (drop rowsAt one))
+  both-copied one table two e1 e2 e3 =
       let size = right-block block (writable .opens) .size in
       let is-front = length-take-le rowsAt block (omega arith) in
-      let copied : one ≡ take rowsAt block ++ drop rowsAt out = e1 ∙ ap (λ k. take rowsAt block ++ drop k out) is-front in
-      let two : set one 2 n ≡ top ++ drop rowsAt out = ap (λ bytes. set bytes 2 n) copied ∙ top-written in
-      let top-size = front-size block (writable .opens) n in
-      let nothing =
-      drop-of-length-le (part rowsAt bodyBytes (set one 2 n)) {i = length rows} (simp length-take (omega (arith, writable .size))) in
+      let nothing = drop-of-length-le (part rowsAt bodyBytes one) {i = length rows} (simp length-take (omega (arith, writable .size))) in
       let is-table : table ≡ rows = e2 ∙ (ap (λ rest. rows ++ rest) nothing ∙ append-nil rows) in
-      let rest = drop (bodyBytes - rowsAt) (drop rowsAt (set one 2 n)) in
-      let is-top : take rowsAt (set one 2 n) ≡ top = ap (take rowsAt) two ∙ take-at top (drop rowsAt out) rowsAt top-size in
-      let is-three : three ≡ top ++ rows ++ rest = e3 ∙ (ap (λ front. front ++ (table ++ rest)) is-top
-      ∙ (ap (λ middle. top ++ (middle ++ rest)) is-table ∙ sym (append-assoc top rows rest))) in
-      let body-size = length-append top rows in
-      ap (take bodyBytes) is-three ∙ (take-at (top ++ rows) rest bodyBytes (omega (arith, writable .size)) ∙ body-whole)
+      let is-top : take rowsAt one ≡ take rowsAt block =
+      ap (take rowsAt) e1 ∙ take-at (take rowsAt block) (drop (length (take rowsAt block)) out) rowsAt is-front in
+      let rest = drop (bodyBytes - rowsAt) (drop rowsAt one) in
+      e3 ∙ ap (λ front. front ++ (table ++ rest)) is-top ∙ ap (λ middle. take rowsAt block ++ (middle ++ rest)) is-table
 
-  -- with the sums behind them
-  pub block-afterwards : (one table three four : List ℕ) → one ≡ take rowsAt block ++ drop (length (take rowsAt block)) out
-      → table ≡ rows ++ drop (length rows) (part rowsAt bodyBytes (set one 2 n))
-      → three ≡ take rowsAt (set one 2 n) ++ (table ++ drop (bodyBytes - rowsAt) (drop rowsAt (set one 2 n)))
-      → four ≡ sealed (take bodyBytes three)
-      → four ≡ bytesOf (patchWith (fieldsOf block .points) (rowsIn rows n))
-  block-afterwards one table three four e1 e2 e3 e4 = e4 ∙ ap sealed (body-afterwards one table three e1 e2 e3)
+-- the front copied and the bytes of the rows cleared
+pub front-cleared : (block out one zeros two : List ℕ) → openAnswer block ≡ 0 → length out ≡ blockBytes
+    → one ≡ take rowsAt block ++ drop (length (take rowsAt block)) out
+    → zeros ≡ replicate (length (part rowsAt bodyBytes one)) 0
+    → two ≡ take rowsAt one ++ (zeros ++ drop (bodyBytes - rowsAt) (drop rowsAt one))
+    → two ≡ take rowsAt block ++ (replicate tableBytes 0 ++ drop bodyBytes out)
+front-cleared block out one zeros two opens output e1 e2 e3 =
+    let size = right-block block opens .size in
+    let is-front = length-take-le rowsAt block (omega arith) in
+    let copied : one ≡ take rowsAt block ++ drop rowsAt out = e1 ∙ ap (λ k. take rowsAt block ++ drop k out) is-front in
+    let is-top : take rowsAt one ≡ take rowsAt block = ap (take rowsAt) copied ∙ take-at (take rowsAt block) (drop rowsAt out) rowsAt is-front in
+    let is-rest : drop rowsAt one ≡ drop rowsAt out = ap (drop rowsAt) copied ∙ drop-at (take rowsAt block) (drop rowsAt out) rowsAt is-front in
+    let behind : drop (bodyBytes - rowsAt) (drop rowsAt one) ≡ drop bodyBytes out =
+    ap (drop (bodyBytes - rowsAt)) is-rest ∙ drop-drop (bodyBytes - rowsAt) rowsAt out in
+    let many : length (part rowsAt bodyBytes one) ≡ tableBytes =
+    ap (λ l. length (take (bodyBytes - rowsAt) l)) is-rest
+    ∙ length-take-le (bodyBytes - rowsAt) (drop rowsAt out) (simp length-drop (omega (arith, output))) in
+    let none : zeros ≡ replicate tableBytes 0 = e2 ∙ ap (λ k. replicate k 0) many in
+    e3 ∙ rw (is-top, none, behind)

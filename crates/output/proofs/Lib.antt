@@ -1,3 +1,4 @@
 pub mod RowsThenZeros
 pub mod RowsThatStay
 pub mod BlockAfterwards
+pub mod BlockFilledIn

@@ -2,23 +2,17 @@
 ghost use mathlib.Core.Path.{_≡_};
 ghost use mathlib.Core.List.{_++_, flatMap};
 ghost use Prim.Native.Nat.{_*_, _≤_};
-ghost use lib.ListN.{length, drop};
+ghost use lib.ListN.{length, take, drop, set, replicate};
 ghost use Rattle.rows.specs.Rows.{rowSize, rowBytes, rowsIn};
-ghost use Rattle.layout.specs.Layout.{fieldsOf, bytesOf};
+ghost use Rattle.layout.specs.Layout.{blockBytes, bodyBytes, rowsAt, maxRows, fieldsOf, bytesOf, sealed};
+ghost use Rattle.block.specs.Opening.{openAnswer};
 ghost use Rattle.output.specs.Output.{stays, staying, patchWith};
-ghost use Rattle.output.specs.Steps.{Writable};
+ghost use Rattle.output.specs.Steps.{Writable, tableBytes};
 use layout::BODY_BYTES;
 use layout::ROWS_AT;
-use layout::TABLE_BYTES;
 use rows::Row;
 
-// ---- rows in a scratch table
-
-// The n rows of a scratch table; unused rows are zero.
-pub struct Rows {
-    pub n: usize,
-    pub table: [u8; TABLE_BYTES],
-}
+// ---- the rows that stay
 
 // The row does not hold all three numbers; an edge is given with its second end twice.
 fn row_stays(row: Row, x: u8, y: u8, z: u8) -> bool
@@ -27,7 +21,7 @@ fn row_stays(row: Row, x: u8, y: u8, z: u8) -> bool
     !rows::holds_face(row, x, y, z)
 }
 
-// The rows that stay, in order, are written to the front of the scratch table; their number is returned.
+// The rows that stay, in order, are written to the front of another table; their number is returned.
 pub fn keep_others(table: &[u8], n: usize, x: u8, y: u8, z: u8, rows: &mut [u8]) -> usize
     requires { ⌜ (rowSize * n ≤ length (now table)) × (rowSize * n ≤ length (now rows)) ⌝ }
     ensures { λ r. ⌜ (r ≡ length (staying x y z (rowsIn (now (table .entry)) n)))
@@ -47,13 +41,39 @@ pub fn keep_others(table: &[u8], n: usize, x: u8, y: u8, z: u8, rows: &mut [u8])
 
 // ---- the block
 
-// The block's points and the first n rows of the scratch table, written as a block; unused rows are zero and the sums are made anew.
+// Every byte becomes zero.
+fn clear(part: &mut [u8])
+    ensures { λ _. ⌜ now (part .exit) ≡ replicate (length (now (part .entry))) 0 ⌝ }
+{
+    for i in 0..part.len() {
+        part[i] = 0;
+    }
+}
+
+// The block's points and no rows: the rows are then written into their place, and `finish` ends the block.
+pub fn begin(block: &[u8], out: &mut [u8])
+    requires { ⌜ (openAnswer (now block) ≡ 0) × (length (now out) ≡ blockBytes) ⌝ }
+    ensures { λ _. ⌜ now (out .exit) ≡ take rowsAt (now (block .entry)) ++ (replicate tableBytes 0 ++ drop bodyBytes (now (out .entry))) ⌝ }
+{
+    layout::copy(&block[0..ROWS_AT], out);
+    clear(&mut out[ROWS_AT..BODY_BYTES]);
+}
+
+// The number of rows, and the sums made anew.
+pub fn finish(out: &mut [u8], n: usize)
+    requires { ⌜ (length (now out) ≡ blockBytes) × (n ≤ maxRows) ⌝ }
+    ensures { λ _. ⌜ now (out .exit) ≡ sealed (take bodyBytes (set (now (out .entry)) 2 n)) ⌝ }
+{
+    out[2] = n as u8;
+    layout::stamp(out);
+}
+
+// The block's points and the first n rows of a table, written as a block; unused rows are zero.
 pub fn write(block: &[u8], rows: &[u8], n: usize, out: &mut [u8])
     requires { ⌜ Writable (now block) (now rows) n (now out) ⌝ }
     ensures { λ _. ⌜ now (out .exit) ≡ bytesOf (patchWith (fieldsOf (now (block .entry)) .points) (rowsIn (now (rows .entry)) n)) ⌝ }
 {
     layout::copy(&block[0..ROWS_AT], out);
-    out[2] = n as u8;
     layout::copy(rows, &mut out[ROWS_AT..BODY_BYTES]);
-    layout::stamp(out);
+    finish(out, n);
 }

@@ -11,12 +11,13 @@ pub use calls::Removed;
 pub use calls::Summarised;
 pub use display::shown;
 use edge::blocks_answer;
-use edge_flip::flip_plan;
+use edge_flip::flip_edge;
 use face::face_wrong;
 use face_flip::flip_face;
 use layout::BODY_BYTES;
 use layout::POINTS_AT;
 use layout::ROWS_AT;
+pub use removal::page;
 pub use removal::remove;
 
 // The summary of a block, or a refusal of opening.
@@ -46,14 +47,7 @@ pub fn flip_32(block: &[u8], e: usize, f: usize, out: &mut [u8]) -> Answer
     let Answer::Done = opened else {
         return opened;
     };
-    let planned = flip_plan(block, e, f);
-    let answer = planned.answer;
-    let rows = planned.rows;
-    let Answer::Done = answer else {
-        return answer;
-    };
-    output::write(block, &rows.table, rows.n, out);
-    answer
+    flip_edge(block, e, f, out)
 }
 
 // The 2-3 flip of the face x, y, z, given in any order: writes the block afterwards, or refuses and leaves every output byte.

@@ -1,43 +1,38 @@
--- The removal as a call: a refusal in front of the attempt, the attempt's answer as the call's, and the block that is then written.
-use Prim.Native.Nat.{ℕ, zero, suc, _≤_}
-use mathlib.Core.Bool.{cond}
-use mathlib.Core.List.{List, [], _++_, append-assoc}
+-- The removal as a call: a refusal in front of the attempt, the attempt's refusal as the call's, and the block that is then written.
+use Prim.Native.Nat.{ℕ, zero, suc, _-_}
+use mathlib.Core.Bool.{not, _||_}
+use mathlib.Core.List.{List, _∷_, _++_, append-assoc}
 use mathlib.Core.Path.{_≡_, refl, sym, ap, _∙_}
 use native.Mathlib.Omega.{arith}
-use borrow.Author.Tests.{ne-eqb, ltb-false}
-use lib.Dec.{eqb, ltb}
-use lib.ListN.{length}
-use Rattle.lists.proofs.Tests.{neither-is}
-use Rattle.page.specs.declared.PageRow.{PageRow}
-use Rattle.rows.specs.declared.Row.{Row}
-use Rattle.rows.specs.Rows.{rowsIn}
+use borrow.Author.Tests.{ne-eqb}
+use lib.Dec.{eqb}
+use lib.ListN.{length, take, drop, set, replicate, length-replicate}
+use Rattle.lists.proofs.Tests.{or-false}
 use Rattle.answers.specs.declared.Answer.{Answer}
 use Rattle.answers.specs.declared.Answer.the-variants as Answers
-use Rattle.layout.specs.Layout.{blockBytes, maxRows, fieldsOf, bytesOf}
+use Rattle.layout.specs.Layout.{blockBytes, bodyBytes, rowsAt, fieldsOf, sealed, sumWrong}
 use Rattle.answers.specs.Answers.{Tests, firstRefusal, answerOf}
-use Rattle.block.specs.Opening.{openAnswer}
-use Rattle.ring.specs.Ring.{Site, siteOf, m, minRing, maxRing, orChains, edgeTests}
-use Rattle.triangulation.specs.Triangulation.{tableAfter, rowsAfter}
-use Rattle.triangulation.specs.Best.{chosen}
-use Rattle.output.specs.Steps.{Writable}
-use Rattle.output.specs.Output.{patchWith}
+use Rattle.body.specs.Body.{bodyTests}
+use Rattle.block.specs.Opening.{notBlock, openAnswer}
+use Rattle.ring.specs.Ring.{Site, siteOf, orChains, edgeTests, ringWith}
+use Rattle.ring.proofs.RingInAnyOrder.{site-ordered}
+use Rattle.output.specs.Steps.{tableBytes}
+use Rattle.output.proofs.BlockFilledIn.{filled-in}
 use Rattle.calls.specs.declared.Removal.the-variants.{Done, Refused}
+use Rattle.calls.specs.declared.Removed.{Removed}
 use Rattle.calls.specs.Removing.{blockTests, patchAfter, removalTests, removeAnswer, removeBytes, removeGives}
-use Rattle.calls.proofs.CallTests.{block-left, blocked, removes}
-use Rattle.calls.proofs.HandedOn.{Number}
-use Rattle.calls.proofs.SoundEdges.{sound-site}
-use Rattle.calls.proofs.BestDecides.{chosen-rows}
-use Rattle.replacement.specs.Steps.{rowsWith}
-use Rattle.replacement.proofs.ScratchWritten.{write-ready, write-rows}
-use Rattle.attempt.specs.declared.Outcome.{Outcome}
-use Rattle.attempt.specs.Steps.{attemptAnswer, noRemoved, removedWith, outcomeOf}
+use Rattle.calls.proofs.CallTests.{block-left, blocked}
+use Rattle.calls.proofs.HandedOn.{Number, number-handed, handed-done}
+use Rattle.attempt.specs.declared.Tried.{Tried}
+use Rattle.attempt.specs.Steps.{attemptAnswer, Attempts, Replaceable}
+use Rattle.outcome.specs.declared.After.{After}
+use Rattle.outcome.specs.Steps.{rowsAfterwards, pageAfterwards, Replaces}
+use Rattle.outcome.proofs.RowsAfterwards.{few-afterwards}
+use Rattle.removal.specs.Steps.{noRemoved}
 
 module _ (block out : List ℕ) (e f : ℕ) where
   abbrev site : Site
   site = siteOf (fieldsOf block) e f
-
-  abbrev after : List Row
-  after = tableAfter site (chosen site)
 
   abbrev behind : Tests
   behind = edgeTests orChains site e f ++ removalTests site
@@ -47,80 +42,87 @@ module _ (block out : List ℕ) (e f : ℕ) where
   unfolding removeAnswer
   in-stages = ap firstRefusal (append-assoc (blockTests block out) (edgeTests orChains site e f) (removalTests site))
 
-  by-answer : removeGives block out e f ≡ removedWith (removeAnswer block out e f) (fieldsOf block) site
-  unfolding removeGives removedWith
+  -- what is given by the answer
+  gives : ℕ → Removed
+  gives answer =
+      elim answer [
+        | zero ↦ record { removal = Done (pageAfterwards block e f); ring = ringWith (site .ring) }
+        | suc n ↦ noRemoved (suc n)
+      ]
+
+  by-answer : removeGives block out e f ≡ gives (removeAnswer block out e f)
+  unfolding removeGives gives
   by-answer = refl
 
-  -- ---- answers 1 to 8
+  -- ---- a refusal
 
-  module _ (answer : Answer) (is : answer ≡ answerOf (firstRefusal (blockTests block out))) (n : ℕ) (refused : answer ≡ Answers.Refused n) where
-    number : Number (firstRefusal (blockTests block out ++ behind)) n
-    number = blocked block out answer is n refused behind
+  module _ (n : ℕ) (number : Number (removeAnswer block out e f) n) where
+    pub refusal-gives : noRemoved n ≡ removeGives block out e f
+    unfolding gives
+    refusal-gives = ap noRemoved (number .handed) ∙ sym (by-answer ∙ ap gives (number .answer))
 
-    pub front-gives : noRemoved n ≡ removeGives block out e f
-    unfolding removedWith
-    front-gives =
-        ap noRemoved (number .handed)
-        ∙ sym (by-answer ∙ ap (λ k. removedWith k (fieldsOf block) site) (in-stages ∙ number .answer))
-
-    pub front-keeps : out ≡ removeBytes block out e f
+    pub refusal-keeps : out ≡ removeBytes block out e f
     unfolding removeBytes
-    front-keeps = rw (in-stages, number .answer, ne-eqb (suc (number .less)) 0 (λ z. omega arith))
+    refusal-keeps = rw (number .answer, ne-eqb (suc (number .less)) 0 (λ z. omega arith))
+
+  -- answers 1 to 8
+  pub front-number : (answer : Answer) → answer ≡ answerOf (firstRefusal (blockTests block out)) → (n : ℕ) → answer ≡ Answers.Refused n
+      → Number (removeAnswer block out e f) n
+  front-number answer is n refused =
+      let number = blocked block out answer is n refused behind in
+      record { less = number .less; answer = in-stages ∙ number .answer; handed = number .handed }
 
   -- ---- the others
 
-  done-only : (n : ℕ) (row : PageRow) → removedWith n (fieldsOf block) site .removal ≡ Done row → n ≡ 0
-  unfolding removedWith
-  done-only zero row h = refl
-  done-only (suc n) row h = cc
-
-  refused-only : (n k : ℕ) → removedWith n (fieldsOf block) site .removal ≡ Refused k → n ≡ 0 → ⊥
-  unfolding removedWith
-  refused-only zero k h z = let w : _≡_ {A = ℕ} 0 1 = cc in omega arith
-  refused-only (suc n) k h z = omega arith
-
-  module _ (opens : openAnswer block ≡ 0) (size : length out ≡ blockBytes) (given : Outcome) (i : given ≡ outcomeOf block e f) where
+  module _ (opens : openAnswer block ≡ 0) (size : length out ≡ blockBytes) (tried : Tried) (attempts : Attempts block e f tried) where
     same-answer : removeAnswer block out e f ≡ attemptAnswer block e f
     unfolding attemptAnswer
     same-answer = in-stages ∙ block-left block out behind opens size
 
-    pub gives-own : given .removed ≡ removeGives block out e f
-    unfolding outcomeOf
-    gives-own =
-        ap (λ (o : Outcome). o .removed) i
-        ∙ sym (by-answer ∙ ap (λ k. removedWith k (fieldsOf block) site) same-answer)
+    pub tried-number : (n : ℕ) → tried .answer ≡ Answers.Refused n → Number (removeAnswer block out e f) n
+    tried-number n h =
+        let number = number-handed (attemptAnswer block e f) n (sym (attempts .answer) ∙ h) in
+        record { less = number .less; answer = same-answer ∙ number .answer; handed = number .handed }
 
-    removal-is : removedWith (removeAnswer block out e f) (fieldsOf block) site .removal ≡ given .removed .removal
-    removal-is = sym (ap (λ r. r .removal) (gives-own ∙ by-answer))
+    module _ (h : tried .answer ≡ Answers.Done) where
+      zero-answer : attemptAnswer block e f ≡ 0
+      zero-answer = handed-done (attemptAnswer block e f) (tried .answer) (attempts .answer) h
 
-    pub keeps-out : (n : ℕ) → given .removed .removal ≡ Refused n → out ≡ removeBytes block out e f
-    unfolding removeBytes
-    keeps-out n h = rw (ne-eqb (removeAnswer block out e f) 0 (refused-only (removeAnswer block out e f) n (removal-is ∙ h)))
+      pub replaceable : Replaceable block e f (tried .closed) (tried .ring) (tried .apexes)
+      replaceable = attempts .done zero-answer
 
-    module _ (row : PageRow) (h : given .removed .removal ≡ Done row) where
-      removes-0 : removeAnswer block out e f ≡ 0
-      removes-0 = done-only (removeAnswer block out e f) row (removal-is ∙ h)
+      own-ring : tried .ring ≡ ringWith (site .ring)
+      unfolding fieldsOf
+      own-ring = replaceable .ringed .ready .found ∙ ap (λ (s : Site). ringWith (s .ring)) (site-ordered (fieldsOf block) e f)
 
-      removes-rows : given .rows ≡ rowsWith after
-      unfolding outcomeOf
-      removes-rows =
-          ap (λ (o : Outcome). o .rows) i ∙ ap (λ n. rowsWith (cond (eqb n 0) after [])) (sym same-answer ∙ removes-0)
+      module _ (rows : List ℕ) (after : After) (replaces : Replaces block e f rows after) where
+        pub done-gives : _≡_ {A = Removed} (record { removal = Done (after .page); ring = tried .ring }) (removeGives block out e f)
+        unfolding gives
+        done-gives =
+            let own : _≡_ {A = Removed} (record { removal = Done (after .page); ring = tried .ring }) (gives 0) = rw (own-ring, replaces .page) in
+            own ∙ sym (by-answer ∙ ap gives (same-answer ∙ zero-answer))
 
-      removes-few : length after ≤ maxRows
-      removes-few =
-          let r = removes block out e f removes-0 in
-          let (low, high) = neither-is (ltb (m site) minRing) (ltb maxRing (m site)) (r .length-right) in
-          omega (
-            arith,
-            chosen-rows site (sound-site block e f (r .sound)) (ltb-false (m site) minRing low) (r .way),
-            ltb-false maxRows (rowsAfter site) (r .room),
-          )
+        -- the block that was begun, with the rows in their place, finished
+        pub done-bytes : (begun two done : List ℕ) → begun ≡ take rowsAt block ++ (replicate tableBytes 0 ++ drop bodyBytes out)
+            → two ≡ take rowsAt begun ++ (rows ++ drop (bodyBytes - rowsAt) (drop rowsAt begun))
+            → done ≡ sealed (take bodyBytes (set two 2 (after .n)))
+            → done ≡ removeBytes block out e f
+        unfolding removeBytes patchAfter siteOf
+        done-bytes begun two done b t d =
+            rw (same-answer ∙ zero-answer)
+            (filled-in block opens (drop bodyBytes out) begun b out size (rowsAfterwards block e f) (few-afterwards block e f replaceable) rows
+            (replaces .table) (after .n) (replaces .number) two t done d)
 
-      pub remove-ready : Writable block (given .rows .table) (given .rows .n) out
-      remove-ready = write-ready block out after opens size removes-few (given .rows) removes-rows
+-- ---- the page row alone: that of a removal with an output block of the right length
 
-      pub remove-writes : (written : List ℕ)
-          → written ≡ bytesOf (patchWith (fieldsOf block .points) (rowsIn (given .rows .table) (given .rows .n)))
-          → written ≡ removeBytes block out e f
-      unfolding removeBytes patchAfter siteOf
-      remove-writes written w = rw removes-0 (w ∙ write-rows block out after opens size removes-few (given .rows) removes-rows)
+abbrev pub blank : List ℕ
+blank = replicate blockBytes 0
+
+pub blank-size : length blank ≡ blockBytes
+blank-size = length-replicate {A = ℕ} blockBytes 0
+
+pub blank-opened : (block : List ℕ) → firstRefusal (blockTests block blank) ≡ openAnswer block
+unfolding blockTests openAnswer
+blank-opened block =
+    ap (λ refused. firstRefusal ((1, refused) ∷ (2, sumWrong block) ∷ bodyTests block))
+    (ap (λ size. notBlock block || not (eqb size blockBytes)) blank-size ∙ or-false (notBlock block))

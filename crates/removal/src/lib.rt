@@ -1,12 +1,29 @@
-// The removal of an edge: the lengths and the opening, the attempt, and the block afterwards.
+// The removal of an edge: the lengths and the opening, the attempt, and the block afterwards; and its page row alone.
 ghost use mathlib.Core.Path.{_≡_};
+ghost use lib.ListN.{replicate};
+ghost use Rattle.layout.specs.Layout.{blockBytes};
 ghost use Rattle.calls.specs.Removing.{removeGives, removeBytes};
+ghost use Rattle.removal.specs.Steps.{noRemoved};
 use answers::Answer;
 use attempt::attempt;
-use attempt::refused;
 use calls::Removal;
 use calls::Removed;
 use edge::blocks_answer;
+use layout::BODY_BYTES;
+use layout::ROWS_AT;
+use layout::TABLE_BYTES;
+use outcome::replace;
+use ring::Ring;
+
+// A refusal, with its number and nothing else.
+fn refused(number: u8) -> Removed
+    ensures { λ r. ⌜ r ≡ noRemoved number ⌝ }
+{
+    Removed {
+        removal: Removal::Refused(number),
+        ring: Ring::EMPTY,
+    }
+}
 
 // Removes the edge between the points e and f, or refuses and leaves every output byte.
 pub fn remove(block: &[u8], e: usize, f: usize, out: &mut [u8]) -> Removed
@@ -17,13 +34,48 @@ pub fn remove(block: &[u8], e: usize, f: usize, out: &mut [u8]) -> Removed
     if let Answer::Refused(number) = opened {
         return refused(number);
     }
-    let attempted = attempt(block, e, f);
-    let removed = attempted.removed;
-    let rows = attempted.rows;
-    let removal = removed.removal;
-    let Removal::Done(_) = removal else {
-        return removed;
-    };
-    output::write(block, &rows.table, rows.n, out);
-    removed
+    let tried = attempt(block, e, f);
+    let answer = tried.answer;
+    let ring = tried.ring;
+    let apexes = tried.apexes;
+    if let Answer::Refused(number) = answer {
+        return refused(number);
+    }
+    output::begin(block, out);
+    let after = replace(
+        block,
+        e,
+        f,
+        tried.closed,
+        ring,
+        &apexes,
+        &mut out[ROWS_AT..BODY_BYTES],
+    );
+    output::finish(out, after.n);
+    let page = after.page;
+    Removed {
+        removal: Removal::Done(page),
+        ring,
+    }
+}
+
+// The page row of that removal, or its refusal; nothing is written.
+pub fn page(block: &[u8], e: usize, f: usize) -> Removal
+    ensures { λ r. ⌜ r ≡ removeGives (now (block .entry)) (replicate blockBytes 0) e f .removal ⌝ }
+{
+    let opened = block::opening(block);
+    if let Answer::Refused(number) = opened {
+        return Removal::Refused(number);
+    }
+    let tried = attempt(block, e, f);
+    let answer = tried.answer;
+    let ring = tried.ring;
+    let apexes = tried.apexes;
+    if let Answer::Refused(number) = answer {
+        return Removal::Refused(number);
+    }
+    let mut rows = [0u8; TABLE_BYTES];
+    let after = replace(block, e, f, tried.closed, ring, &apexes, &mut rows);
+    let page = after.page;
+    Removal::Done(page)
 }

@@ -1,40 +1,29 @@
 -- The rows that stay, with the new rows of the chosen triangulation behind them, are the table afterwards; and the region of the new rows.
-use Prim.Native.Nat.{ℕ, suc, _+_, _-_, _*_, _≤_, _<_, min, max}
+use Prim.Native.Nat.{ℕ, zero, suc, _+_, _-_, _*_, _≤_, _<_, min, max}
 use mathlib.Core.Bool.{Bool, true, false}
 use mathlib.Core.List.{List, [], _∷_, _++_, flatMap}
 use mathlib.Core.Path.{_≡_, sym, ap, _∙_}
 use native.Mathlib.Numerals.{add-one}
 use native.Mathlib.Omega.{arith}
-use lib.ListN.{length, getD, drop, replicate, length-append, drop-of-length-le}
+use lib.ListN.{length, getD, drop, replicate, length-append, length-replicate, drop-of-length-le, List·getD-append}
 use lib.Seq.{drop-cons}
 use Rattle.lists.specs.Lists.{those}
 use Rattle.rows.specs.declared.Row.{Row}
 use Rattle.rows.specs.Rows.{rowSize, rowIn, rowsIn, rowBytes, noRow, holdsEdge, withRows}
 use Rattle.rows.proofs.RowsOfTables.{rows-length, rows-at}
-use Rattle.layout.specs.Layout.{maxRows}
 use Rattle.ring.specs.declared.Ring.{Ring}
 use Rattle.ring.specs.Ring.{Site, siteOf, m, maxRing}
-use Rattle.cells.specs.declared.Best.{Best}
-use Rattle.pieces.specs.declared.Pieces.{Pieces}
-use Rattle.triangulation.specs.Triangulation.{span, newRows, tableAfter, rowsAfter, regionOf}
-use Rattle.triangulation.specs.Admissible.{barred}
-use Rattle.pieces.specs.Steps.{KeepsTable}
+use Rattle.triangulation.specs.Triangulation.{span, v, newRows, tableAfter, regionOf}
 use Rattle.triangulation.specs.Best.{chosen}
-use Rattle.cells.specs.Steps.{cellAt}
 use Rattle.triangulation.specs.Steps.{siteIn}
-use Rattle.cells.specs.Steps.{bestOf, readBest, cells}
+use Rattle.cells.specs.Steps.{cells}
 use Rattle.expansion.specs.Steps.{Between, SiteRows, treeIn}
-use Rattle.cells.proofs.CellsRead.{read-fraction}
-use Rattle.pieces.proofs.TableOptimal.{kept-best}
-use Rattle.expansion.proofs.TreeOfTable.{kept-between, kept-rows, kept-spans, kept-tree}
-use Rattle.triangulation.proofs.Barred.{whole-is}
 use Rattle.output.specs.Output.{staying}
 use Rattle.output.specs.Steps.{tableBytes, tableWith}
 use Rattle.output.proofs.RowsThatStay.{edge-staying}
 use Rattle.output.proofs.RowsThenZeros.{table-size, table-front, table-append}
-use Rattle.output.specs.declared.Rows.{Rows}
 use Rattle.edge.specs.Steps.{Ringed}
-use Rattle.replacement.specs.Steps.{Carries, rowsWith}
+use Rattle.replacement.specs.Steps.{Carriable}
 
 -- ---- the region of the first row that holds the edge
 
@@ -73,8 +62,8 @@ module _ (table : List ℕ) (n a b : ℕ) where
 -- ---- the rows afterwards
 
 module _ (coordinates : List ℕ) (count : ℕ) (table : List ℕ) (n a b : ℕ) {closed : Bool} {ring : Ring}
-    (given : Ringed coordinates count table n a b closed ring)
-    (pieces : Pieces) (keeps : KeepsTable (siteIn coordinates count table n a b) pieces) where
+    (given : Ringed coordinates count table n a b closed ring) {apexes rows : List ℕ}
+    (carriable : Carriable (siteIn coordinates count table n a b) apexes rows) where
   abbrev its : Site
   its = siteIn coordinates count table n a b
 
@@ -84,11 +73,16 @@ module _ (coordinates : List ℕ) (count : ℕ) (table : List ℕ) (n a b : ℕ)
   most : max a b ≡ b
   most = omega (arith, given .ready .ordered)
 
-  last-place : pieces .m ≤ maxRing
-  last-place = omega (arith, keeps .length, given .ready .short)
+  size-is : ring .m ≡ m its
+  size-is = ap (λ (r : Ring). r .m) (given .ready .found)
 
-  module _ (room : rowsAfter its ≤ maxRows) (kept : ℕ) (kept-is : kept ≡ length (staying a b b (rowsIn table n))) (front : List ℕ)
-      (front-is : front ≡ flatMap rowBytes (staying a b b (rowsIn table n)) ++ drop (rowSize * kept) (replicate tableBytes 0)) where
+  -- the empty table holds the rows that are there now
+  pub keep-room : (rowSize * n ≤ length table) × (rowSize * n ≤ length rows)
+  keep-room =
+      (given .ready .rows, omega (arith, given .ready .few-rows, ap length (carriable .empty) ∙ length-replicate {A = ℕ} tableBytes 0))
+
+  module _ (kept : ℕ) (kept-is : kept ≡ length (staying a b b (rowsIn table n))) (front : List ℕ)
+      (front-is : front ≡ flatMap rowBytes (staying a b b (rowsIn table n)) ++ drop (rowSize * kept) rows) where
     stays : staying a b b (rowsIn table n) ≡ its .kept
     unfolding siteOf
     stays = edge-staying a b (rowsIn table n) ∙ rw (least, most)
@@ -97,60 +91,47 @@ module _ (coordinates : List ℕ) (count : ℕ) (table : List ℕ) (n a b : ℕ)
     kept-own = kept-is ∙ ap length stays
 
     front-own : front ≡ tableWith (its .kept)
-    front-own = rw (front-is, stays, kept-own) (table-front (its .kept))
+    front-own = rw (front-is, stays, kept-own, carriable .empty) (table-front (its .kept))
 
     front-size : length front ≡ tableBytes
-    front-size = ap length front-own ∙ table-size (its .kept) (omega arith)
+    front-size = ap length front-own ∙ table-size (its .kept) (omega (arith, carriable .room))
 
-    pub expand-ready : (length (pieces .apexes) ≡ cells) → (
-        (length (pieces .apexes) ≡ cells) × Between (pieces .apexes) 1 (pieces .m) × (1 ≤ 1) × (1 < pieces .m) × (pieces .m ≤ maxRing)
-        )
-    expand-ready e = (
-      e,
-      rw (keeps .length) (kept-between keeps),
+    pub expand-ready : (length apexes ≡ cells) × Between apexes 1 (ring .m) × (1 ≤ 1) × (1 < ring .m) × (ring .m ≤ maxRing)
+    expand-ready = (
+      carriable .whole,
+      rw size-is (carriable .stand .between),
       omega arith,
-      omega (arith, keeps .length, given .ready .long),
-      last-place,
+      omega (arith, size-is, given .ready .long),
+      omega (arith, size-is, given .ready .short),
     )
 
-    pub expand-room : rowSize * (kept + 2 * (pieces .m - 1 - 1)) ≤ length front
-    expand-room = omega (arith, front-size, kept-own, keeps .length, given .ready .long)
+    pub expand-room : rowSize * (kept + 2 * (ring .m - 1 - 1)) ≤ length front
+    expand-room = omega (arith, front-size, kept-own, size-is, given .ready .long, carriable .room)
 
-    module _ (region : ℕ) (region-is : region ≡ regionOf (those (holdsEdge a b) (rowsIn table n))) (unbarred : barred its ≡ false)
-        (spans : span (chosen its) ≡ m its - 1) where
-      site-rows : SiteRows its (record { a = a; b = b; v = pieces .ring }) region 1 (m its)
+    module _ (region : ℕ) (region-is : region ≡ regionOf (those (holdsEdge a b) (rowsIn table n))) where
+      point : (l : ℕ) → 1 ≤ l → l ≤ m its → getD (ring .v) (l - 1) 0 ≡ v its l
+      point zero s h = absurd (omega arith)
+      point (suc l) s h =
+          let back : suc l - 1 ≡ l = omega arith in
+          ap (λ k. getD (ring .v) k 0) back
+          ∙ ap (λ (r : Ring). getD (r .v) l 0) (given .ready .found)
+          ∙ List·getD-append (its .ring) (replicate (maxRing - m its) 0) 0 l (omega arith)
+
+      site-rows : SiteRows its (record { a = a; b = b; v = ring .v }) region 1 (ring .m)
       unfolding siteOf
-      site-rows = record { a = sym least; b = sym most; v = kept-rows keeps .v; own-region = rw (least, most) region-is }
+      site-rows = rw size-is (record { a = sym least; b = sym most; v = point; own-region = rw (least, most) region-is })
 
       pub carried-out : (whole : List ℕ) (end : ℕ)
-          → ((site : Site) → SiteRows site (record { a = a; b = b; v = pieces .ring }) region 1 (pieces .m)
-          → span (treeIn (pieces .apexes) 1 (pieces .m)) ≡ pieces .m - 1
-          → (whole ≡ withRows front kept (newRows site 1 (treeIn (pieces .apexes) 1 (pieces .m))))
-          × (end ≡ kept + length (newRows site 1 (treeIn (pieces .apexes) 1 (pieces .m)))))
-          → _≡_ {A = Rows} (record { n = end; table = whole }) (rowsWith (tableAfter its (chosen its)))
+          → ((site : Site) → SiteRows site (record { a = a; b = b; v = ring .v }) region 1 (ring .m)
+          → span (treeIn apexes 1 (ring .m)) ≡ ring .m - 1
+          → (whole ≡ withRows front kept (newRows site 1 (treeIn apexes 1 (ring .m))))
+          × (end ≡ kept + length (newRows site 1 (treeIn apexes 1 (ring .m)))))
+          → (end ≡ length (tableAfter its (chosen its))) × (whole ≡ tableWith (tableAfter its (chosen its)))
       unfolding tableAfter
       carried-out whole end f =
-          let own : SiteRows its (record { a = a; b = b; v = pieces .ring }) region 1 (pieces .m) = rw (keeps .length) site-rows in
-          let tree : treeIn (pieces .apexes) 1 (pieces .m) ≡ chosen its = rw (keeps .length) (kept-tree keeps unbarred) in
-          let (w, n) = f its own (ap span tree ∙ spans ∙ sym (ap (λ k. k - 1) (keeps .length))) in
-          let rows = newRows its 1 (chosen its) in
-          let number : end ≡ length (its .kept ++ rows) = rw tree at n ∙ rw kept-own (sym (length-append (its .kept) rows)) in
-          let bytes : whole ≡ tableWith (its .kept ++ rows) = rw (tree, front-own, kept-own) at w
-          ∙ table-append (its .kept) rows in
-          rw (number, bytes)
-
-  -- what is read for the whole ring or chain is its best worst; where it is no mark, no kept row bars it
-  pub carries : (best : Best) (at : ℕ) → at ≡ cellAt 1 (pieces .m)
-      → bestOf best ≡ readBest (getD (pieces .kinds) at 0) (getD (pieces .nums) at 0) (getD (pieces .dens) at 0)
-      → (rows : Rows) → (barred its ≡ false → span (chosen its) ≡ m its - 1 → rows ≡ rowsWith (tableAfter its (chosen its)))
-      → Carries its (record { best = best; rows = rows })
-  carries best at e r rows w =
-      let long : 1 + 2 ≤ m its = omega (arith, given .ready .long) in
-      let place : at ≡ cellAt 1 (m its) = e ∙ ap (cellAt 1) (keeps .length) in
-      let own = rw place at r in
-      record {
-        best = rw own (keeps .best 1 (m its) (omega arith) long (omega arith));
-        fraction = λ q h. read-fraction _ _ _ q (sym own ∙ h);
-        rows = λ q h. w (sym (whole-is its) ∙ kept-best keeps 1 (m its) (omega arith) long (omega arith) (sym own ∙ h) .0)
-            (kept-spans keeps long (sym own ∙ h));
-      }
+          let tree : treeIn apexes 1 (ring .m) ≡ chosen its = rw size-is (carriable .stand .tree) in
+          let (w, n) = f its site-rows (ap span tree ∙ carriable .stand .spans ∙ sym (ap (λ k. k - 1) size-is)) in
+          let rows = newRows its 1 (chosen its) in (
+            rw tree at n ∙ rw kept-own (sym (length-append (its .kept) rows)),
+            rw (tree, front-own, kept-own) at w ∙ table-append (its .kept) rows,
+          )

@@ -1,3 +1,3 @@
 pub mod CarriedOut
-pub mod CarriedMark
-pub mod ScratchWritten
+pub mod MarkOfWay
+pub mod WayRead

@@ -1,38 +1,35 @@
--- What only contracts of inner functions and proofs say: rows in a scratch table, a triangulation carried out, and the plan of a call.
-use Prim.Native.Nat.{ℕ, _<_}
-use mathlib.Core.Bool.{cond}
-use mathlib.Core.List.{List, []}
+-- What only contracts of inner functions and proofs say: the apexes of the chosen triangulation, and what carrying it out asks for.
+use Prim.Native.Nat.{ℕ, _-_, _<_, _≤_}
+use mathlib.Core.List.{List}
 use mathlib.Core.Path.{_≡_}
 use mathlib.Core.Option.{some}
-use lib.Dec.{T, eqb}
-use lib.ListN.{length}
+use lib.Dec.{T}
+use lib.ListN.{length, replicate}
 use Rattle.quality.specs.declared.Quality.{Quality}
-use Rattle.rows.specs.declared.Row.{Row}
-use Rattle.answers.specs.declared.Answer.{Answer}
-use Rattle.answers.specs.Answers.{answerOf}
+use Rattle.layout.specs.Layout.{maxRows}
 use Rattle.ring.specs.Ring.{Site, m}
-use Rattle.triangulation.specs.Triangulation.{tableAfter}
+use Rattle.triangulation.specs.Triangulation.{span, rowsAfter}
 use Rattle.triangulation.specs.Best.{tableBest, chosen, sameBest}
-use Rattle.cells.specs.Steps.{bestOf}
-use Rattle.output.specs.Steps.{tableWith}
-use Rattle.output.specs.declared.Rows.{Rows}
-use Rattle.replacement.specs.declared.Carried.{Carried}
-use Rattle.replacement.specs.declared.Plan.{Plan}
+use Rattle.cells.specs.Steps.{bestOf, cells}
+use Rattle.expansion.specs.Steps.{Between, treeIn}
+use Rattle.output.specs.Steps.{tableBytes}
+use Rattle.replacement.specs.declared.Way.{Way}
 
--- the rows in a scratch table
-abbrev pub rowsWith : List Row → Rows
-rowsWith rows = record { n = length rows; table = tableWith rows }
+-- The apexes stand for the chosen triangulation, which spans the ring or chain.
+pub record StandFor (site : Site) (apexes : List ℕ) : Type 0 where
+  pub between : Between apexes 1 (m site)
+  pub tree : treeIn apexes 1 (m site) ≡ chosen site
+  pub spans : span (chosen site) ≡ m site - 1
 
--- The best worst of the ring or chain, as a fraction, or the mark; and, where there is no mark, the rows with the chosen triangulation.
-pub record Carries (site : Site) (r : Carried) : Type 0 where
-  pub best : T (sameBest (bestOf (r .best)) (tableBest site 1 (m site)))
-  pub fraction : (q : Quality) → bestOf (r .best) ≡ some q → 0 < q .den
-  pub rows : (q : Quality) → bestOf (r .best) ≡ some q → r .rows ≡ rowsWith (tableAfter site (chosen site))
+-- The best worst of the ring or chain, as a fraction, or the mark; and, where there is no mark, the apexes of the chosen triangulation.
+pub record BestWay (site : Site) (way : Way) : Type 0 where
+  pub best : T (sameBest (bestOf (way .best)) (tableBest site 1 (m site)))
+  pub fraction : (q : Quality) → bestOf (way .best) ≡ some q → 0 < q .den
+  pub apexes : (q : Quality) → bestOf (way .best) ≡ some q → StandFor site (way .apexes)
 
--- a refusal returns its number and nothing else
-abbrev pub noPlan : Answer → Plan
-noPlan answer = record { answer = answer; rows = rowsWith [] }
-
--- an answer and, with answer 0, the rows afterwards
-unfoldable pub planWith : ℕ → Site → Plan
-planWith answer site = record { answer = answerOf answer; rows = rowsWith (cond (eqb answer 0) (tableAfter site (chosen site)) []) }
+-- There is room for the chosen triangulation, the apexes stand for it, and the table it is carried out in is empty.
+pub record Carriable (site : Site) (apexes rows : List ℕ) : Type 0 where
+  pub room : rowsAfter site ≤ maxRows
+  pub whole : length apexes ≡ cells
+  pub stand : StandFor site apexes
+  pub empty : rows ≡ replicate tableBytes 0

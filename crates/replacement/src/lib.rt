@@ -1,52 +1,45 @@
-// The best triangulation of a ring or a chain, carried out in a scratch table.
+// The best triangulation of a ring or a chain: its worst and its apexes; and carried out, in the place of the rows afterwards.
 ghost use Prim.Native.Nat.{_*_, _≤_};
-ghost use mathlib.Core.List.{[]};
 ghost use mathlib.Core.Path.{_≡_};
 ghost use lib.ListN.{length};
 ghost use Rattle.lists.specs.Lists.{those};
 ghost use Rattle.rows.specs.Rows.{rowSize, rowsIn, holdsEdge};
-ghost use Rattle.layout.specs.Layout.{maxRows};
-ghost use Rattle.triangulation.specs.Triangulation.{regionOf, rowsAfter};
+ghost use Rattle.triangulation.specs.Triangulation.{regionOf, tableAfter};
+ghost use Rattle.triangulation.specs.Best.{chosen};
 ghost use Rattle.triangulation.specs.Steps.{siteIn};
+ghost use Rattle.output.specs.Steps.{tableWith};
 ghost use Rattle.edge.specs.Steps.{Ringed};
-ghost use Rattle.replacement.specs.Steps.{Carries, rowsWith, noPlan};
-use answers::Answer;
+ghost use Rattle.replacement.specs.Steps.{BestWay, Carriable};
 use cells::Best;
+use cells::CELLS;
 use kept_faces::Rim;
-use layout::TABLE_BYTES;
-use output::Rows;
 use ring::Ring;
 
-// The best worst of the ring or chain, or the mark; and the rows with the chosen triangulation, where there is no mark.
-pub struct Carried {
+// The best worst of a ring or chain, or the mark; and, where there is no mark, the apexes of the chosen triangulation.
+pub struct Way {
     pub best: Best,
-    pub rows: Rows,
+    pub apexes: [u8; CELLS],
 }
 
-// No rows.
-pub fn no_rows() -> Rows
-    ensures { λ r. ⌜ r ≡ rowsWith [] ⌝ }
+// The best way to triangulate the ring or chain, by the table of its pieces.
+pub fn best_way(
+    coordinates: &[u8],
+    count: usize,
+    table: &[u8],
+    n: usize,
+    a: u8,
+    b: u8,
+    closed: bool,
+    ring: Ring,
+) -> Way
+    requires { ⌜ Ringed (now coordinates) count (now table) n a b closed ring ⌝ }
+    ensures { λ r. ⌜ BestWay (siteIn (now (coordinates .entry)) count (now (table .entry)) n a b) r ⌝ }
 {
-    Rows {
-        n: 0,
-        table: [0; TABLE_BYTES],
-    }
-}
-
-// The answer of a call before anything is written and, with answer 0, the rows afterwards.
-pub struct Plan {
-    pub answer: Answer,
-    pub rows: Rows,
-}
-
-// A refusal stands beside no rows.
-pub fn no_plan(answer: Answer) -> Plan
-    ensures { λ r. ⌜ r ≡ noPlan answer ⌝ }
-{
-    Plan {
-        answer,
-        rows: no_rows(),
-    }
+    let pieces = pieces::fill(coordinates, count, table, n, a, b, closed, ring);
+    let at = cells::cell_at(1, pieces.m);
+    let best = cells::best_at(&pieces.kinds, &pieces.nums, &pieces.dens, at);
+    let apexes = pieces.apexes;
+    Way { best, apexes }
 }
 
 // The region of the first row that holds the edge.
@@ -63,7 +56,8 @@ fn region_of(table: &[u8], n: usize, a: u8, b: u8) -> u8
     0
 }
 
-// The best triangulation of the ring or chain, carried out.
+// The chosen triangulation, carried out in an empty table: the kept rows, then the new ones; their number is returned. `coordinates`,
+// `count` and `closed` are for the contract alone: they say which ring or chain it is.
 pub fn carry_out(
     coordinates: &[u8],
     count: usize,
@@ -73,33 +67,26 @@ pub fn carry_out(
     b: u8,
     closed: bool,
     ring: Ring,
-) -> Carried
+    apexes: &[u8; CELLS],
+    rows: &mut [u8],
+) -> usize
     requires { ⌜ Ringed (now coordinates) count (now table) n a b closed ring ⌝ }
-    requires { ⌜ rowsAfter (siteIn (now coordinates) count (now table) n a b) ≤ maxRows ⌝ }
-    ensures { λ r. ⌜ Carries (siteIn (now (coordinates .entry)) count (now (table .entry)) n a b) r ⌝ }
+    requires { ⌜ Carriable (siteIn (now coordinates) count (now table) n a b) (now apexes) (now rows) ⌝ }
+    ensures { λ r. ⌜ (r ≡ length (tableAfter (siteIn (now (coordinates .entry)) count (now (table .entry)) n a b)
+        (chosen (siteIn (now (coordinates .entry)) count (now (table .entry)) n a b))))
+        × (now (rows .exit) ≡ tableWith (tableAfter (siteIn (now (coordinates .entry)) count (now (table .entry)) n a b)
+        (chosen (siteIn (now (coordinates .entry)) count (now (table .entry)) n a b)))) ⌝ }
 {
-    let pieces = pieces::fill(coordinates, count, table, n, a, b, closed, ring);
-    let m = pieces.m;
-    let at = cells::cell_at(1, m);
-    let best = cells::best_at(&pieces.kinds, &pieces.nums, &pieces.dens, at);
-    let mut rows = [0u8; TABLE_BYTES];
-    let kept = output::keep_others(table, n, a, b, b, &mut rows);
+    let kept = output::keep_others(table, n, a, b, b, rows);
     let region = region_of(table, n, a, b);
-    let v = pieces.ring;
-    let end = expansion::expand(
-        &mut rows,
+    let v = ring.v;
+    expansion::expand(
+        rows,
         kept,
-        &pieces.apexes,
+        apexes,
         Rim { a, b, v },
         region,
         1,
-        m,
-    );
-    Carried {
-        best,
-        rows: Rows {
-            n: end,
-            table: rows,
-        },
-    }
+        ring.m as usize,
+    )
 }

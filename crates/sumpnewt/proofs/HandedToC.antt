@@ -1,7 +1,7 @@
 -- The number that a call hands to C is its answer, and the elements it leaves are those of its answer.
 use Prim.Native.Nat.{ℕ}
 use mathlib.Core.List.{List}
-use mathlib.Core.Path.{_≡_, refl, ap, _∙_}
+use mathlib.Core.Path.{_≡_, ap, _∙_}
 use lib.Ieee.{Float}
 use lib.ListN.{length, replicate}
 use Rattle.answers.specs.declared.Answer.{Answer}
@@ -9,6 +9,7 @@ use Rattle.layout.specs.Layout.{blockBytes}
 use Rattle.answers.specs.Answers.{numberOf, answerOf}
 use Rattle.answers.proofs.Refusals.{number-of}
 use Rattle.calls.specs.declared.Summarised.{Summarised}
+use Rattle.calls.specs.declared.Removal.{Removal}
 use Rattle.calls.specs.declared.Removed.{Removed}
 use Rattle.calls.specs.Summarising.{summaryGives, summaryNumber}
 use Rattle.calls.specs.Removing.{removeAnswer, removeGives, removalNumber}
@@ -39,12 +40,13 @@ summary-handed block out gives number elements = (
 )
 
 -- a page row
-pub page-handed : (block : List ℕ) (row : List Float) (e f : ℕ) {removed : Removed} → removed ≡ removeGives block (replicate blockBytes 0) e f
-    → {r : ℕ} → r ≡ sized pageElements (length row) (removalNumber (removed .removal))
-    → {now : List Float} → now ≡ fitting pageElements (pageOver row (removed .removal)) row
+pub page-handed : (block : List ℕ) (row : List Float) (e f : ℕ) {removal : Removal}
+    → removal ≡ removeGives block (replicate blockBytes 0) e f .removal
+    → {r : ℕ} → r ≡ sized pageElements (length row) (removalNumber removal)
+    → {now : List Float} → now ≡ fitting pageElements (pageOver row removal) row
     → (r ≡ pageAnswer block row e f) × (now ≡ pageOut block row e f)
 unfolding pageAnswer pageOut
 page-handed block row e f gives number elements = (
-  number ∙ ap (sized pageElements (length row)) (removal-handed _ block (replicate blockBytes 0) e f _ refl gives),
-  elements ∙ ap (λ (given : Removed). fitting pageElements (pageOver row (given .removal)) row) gives,
+  number ∙ ap (sized pageElements (length row)) (ap removalNumber gives ∙ remove-number block (replicate blockBytes 0) e f),
+  elements ∙ ap (λ (given : Removal). fitting pageElements (pageOver row given) row) gives,
 )

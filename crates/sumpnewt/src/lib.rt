@@ -6,7 +6,6 @@ ghost use Rattle.display.specs.Display.{shownAnswer, shownElements};
 ghost use Rattle.calls.specs.Removing.{removeAnswer, removeBytes};
 ghost use Rattle.calls.specs.Flipping.{flip32Answer, flip32Bytes, flip23Answer, flip23Bytes};
 ghost use Rattle.sumpnewt.specs.Boundary.{summaryAnswer, summaryOut, pageAnswer, pageOut};
-use layout::BLOCK_BYTES;
 
 // Opens a block.
 #[no_mangle]
@@ -54,10 +53,7 @@ pub extern "C" fn sumpnewt_page(block: &[u8], a: usize, b: usize, row: &mut [f64
     ensures answer { λ r. ⌜ r ≡ pageAnswer (now (block .entry)) (now (row .entry)) a b ⌝ }
     ensures elements { λ r. ⌜ now (row .exit) ≡ pageOut (now (block .entry)) (now (row .entry)) a b ⌝ }
 {
-    let mut out = [0u8; BLOCK_BYTES];
-    let removed = patch::remove(block, a, b, &mut out);
-    let removal = removed.removal;
-    elements::store_page(removal, row) as u32
+    elements::store_page(patch::page(block, a, b), row) as u32
 }
 
 // Shows the quality of each row of a block: an element for each row, with its sign, and zeros behind them.

@@ -1,12 +1,12 @@
 -- Answers 19 and 14 to 16 of a removal, one by one: what decides each, given what the tests above it found.
 use Prim.Native.Nat.{ℕ, suc, _+_, _-_, _*_, _≤_, _<_, min, max}
 use mathlib.Core.Bool.{Bool, true, false, cond, not, _||_}
-use mathlib.Core.List.{List, [], map}
+use mathlib.Core.List.{List, map}
 use mathlib.Core.Option.{Option·getD}
-use mathlib.Core.Path.{_≡_, refl, sym, ap, _∙_, subst}
+use mathlib.Core.Path.{_≡_, refl, sym, ap, _∙_}
 use native.Mathlib.Omega.{arith}
-use borrow.Author.Tests.{lt-ltb, le-ltb, ne-eqb, ltb-false}
-use lib.Dec.{T, eqb}
+use borrow.Author.Tests.{lt-ltb, le-ltb, ltb-false}
+use lib.Dec.{T}
 use lib.IntN.{pos}
 use lib.ListN.{length, getD, replicate, List·getD-append}
 use Rattle.lists.specs.Lists.{every, those}
@@ -14,40 +14,29 @@ use Rattle.lists.proofs.Lists.{those-split}
 use Rattle.quality.specs.declared.Quality.{Quality}
 use Rattle.volume.specs.Volume.{pointsIn, sameZ}
 use Rattle.quality.specs.Quality.{worse, worst, zeroQuality}
-use Rattle.volume.proofs.PointsInBytes.{points-length}
 use Rattle.rows.specs.Rows.{rowsIn, holdsEdge}
 use Rattle.rows.specs.Steps.{mostRows}
-use Rattle.mesh.specs.Mesh.{numbersFit}
 use Rattle.rows.specs.RowMeasure.{rowD, rowQuality}
-use Rattle.mesh.proofs.MeshRuleStated.{keeps-fits}
 use Rattle.rows.proofs.RowsOfTables.{rows-length}
 use Rattle.answers.specs.declared.Answer.the-variants.{Done, Refused}
 use Rattle.layout.specs.Layout.{maxRows}
-use Rattle.answers.specs.Answers.{Tests, firstRefusal}
-use Rattle.body.specs.Body.{coordinateOver}
+use Rattle.answers.specs.Answers.{Tests, firstRefusal, answerOf}
 use Rattle.answers.proofs.ByNumber.{testOf, before, unlike, passes, stops}
-use Rattle.tally.specs.Steps.{Measured}
-use Rattle.tally.specs.Tally.{patchIn}
 use Rattle.ring.specs.declared.Ring.{Ring}
 use Rattle.ring.specs.Ring.{Site, siteOf, m, maxRing, flat, notFlat}
 use Rattle.cells.specs.declared.Best.the-variants.{Mark, Worst}
-use Rattle.triangulation.specs.Triangulation.{tableAfter, rowsAfter}
-use Rattle.triangulation.specs.Best.{chosen}
+use Rattle.triangulation.specs.Triangulation.{rowsAfter}
 use Rattle.triangulation.specs.Steps.{siteIn}
 use Rattle.cells.specs.Steps.{bestOf}
-use Rattle.output.specs.Steps.{tableBytes}
-use Rattle.output.proofs.RowsThenZeros.{table-size, table-read}
-use Rattle.replacement.specs.declared.Carried.{Carried}
-use Rattle.output.specs.declared.Rows.{Rows}
-use Rattle.replacement.specs.declared.Plan.{Plan}
-use Rattle.calls.specs.Removing.{worstNow, noRoom, noWay, noneBetter, patchAfter, replacementTests}
+use Rattle.replacement.specs.declared.Way.{Way}
+use Rattle.calls.specs.Removing.{worstNow, noRoom, noWay, noneBetter, replacementTests}
 use Rattle.edge.specs.Steps.{Ringed}
 use Rattle.flatness.specs.Steps.{Crossed, across}
-use Rattle.verdict.specs.Steps.{planAnswer, planOf}
-use Rattle.replacement.specs.Steps.{Carries, rowsWith, planWith, noPlan}
-use Rattle.calls.proofs.BestDecides.{best-decides, chosen-keeps, chosen-rows}
-use Rattle.calls.proofs.HandedOn.{Number, number-handed, handed-done}
-use Rattle.replacement.proofs.CarriedMark.{marked, best-whole, unmarked}
+use Rattle.verdict.specs.declared.Plan.{Plan}
+use Rattle.verdict.specs.Steps.{planAnswer, noPlan, Plans}
+use Rattle.replacement.specs.Steps.{BestWay}
+use Rattle.calls.proofs.BestDecides.{best-decides}
+use Rattle.replacement.proofs.MarkOfWay.{marked, best-whole, unmarked}
 
 module _ (coordinates : List ℕ) (count : ℕ) (table : List ℕ) (n a b : ℕ) {closed : Bool} {ring : Ring}
     (given : Ringed coordinates count table n a b closed ring) where
@@ -139,18 +128,19 @@ module _ (coordinates : List ℕ) (count : ℕ) (table : List ℕ) (n a b : ℕ)
   numbered = tt
 
   -- a refusal, with its number and nothing else
-  refusal : (k : ℕ) → firstRefusal (before (suc k) tests) ≡ 0 → testOf (suc k) tests ≡ true → noPlan (Refused (suc k)) ≡ planOf its
-  unfolding planWith planAnswer
-  refusal k front h =
+  refusal : (k : ℕ) → firstRefusal (before (suc k) tests) ≡ 0 → testOf (suc k) tests ≡ true → (plan : Plan) → plan ≡ noPlan (Refused (suc k))
+      → Plans its plan
+  unfolding planAnswer
+  refusal k front h plan is =
       let e : planAnswer its ≡ suc k = stops (suc k) tests numbered front h in
-      rw (e, ne-eqb (suc k) 0 (λ z. omega arith))
+      record { answer = ap (λ (p : Plan). p .answer) is ∙ sym (ap answerOf e); apexes = λ z. absurd (omega (arith, e)) }
 
-  pub gives-19 : notFlat its ≡ true → noPlan (Refused 19) ≡ planOf its
+  pub gives-19 : notFlat its ≡ true → (plan : Plan) → plan ≡ noPlan (Refused 19) → Plans its plan
   unfolding firstRefusal before testOf
   gives-19 h = refusal 18 refl h
 
   pub gives-14 : notFlat its ≡ false → (after : ℕ) → after + ring .m ≡ n + cond closed 0 1 + 2 * (ring .m - 2) → maxRows < after
-      → noPlan (Refused 14) ≡ planOf its
+      → (plan : Plan) → plan ≡ noPlan (Refused 14) → Plans its plan
   unfolding firstRefusal before testOf
   gives-14 level after after-is h =
       refusal 13 (rw level) (lt-ltb maxRows (rowsAfter its) (omega (arith, room-is after after-is)))
@@ -158,17 +148,17 @@ module _ (coordinates : List ℕ) (count : ℕ) (table : List ℕ) (n a b : ℕ)
   pub has-room : (after : ℕ) → after + ring .m ≡ n + cond closed 0 1 + 2 * (ring .m - 2) → after ≤ maxRows → rowsAfter its ≤ maxRows
   has-room after after-is h = omega (arith, room-is after after-is)
 
-  module _ (level : notFlat its ≡ false) (room : rowsAfter its ≤ maxRows) (way : Carried) (carries : Carries its way) where
+  module _ (level : notFlat its ≡ false) (room : rowsAfter its ≤ maxRows) (way : Way) (is-best : BestWay its way) where
     roomy : noRoom its ≡ false
     roomy = le-ltb maxRows (rowsAfter its) room
 
-    pub gives-15 : way .best ≡ Mark → noPlan (Refused 15) ≡ planOf its
+    pub gives-15 : way .best ≡ Mark → (plan : Plan) → plan ≡ noPlan (Refused 15) → Plans its plan
     unfolding firstRefusal before testOf
-    gives-15 e = refusal 14 (rw (level, roomy)) (marked its (given .sound) three way carries e)
+    gives-15 e = refusal 14 (rw (level, roomy)) (marked its (given .sound) three way is-best e)
 
     module _ (q : Quality) (is : way .best ≡ Worst q) where
       some-way : noWay its ≡ false
-      some-way = unmarked its (given .sound) three way carries q is
+      some-way = unmarked its (given .sound) three way is-best q is
 
       -- the worst of the rows that hold both ends
       abbrev round : Quality
@@ -181,69 +171,27 @@ module _ (coordinates : List ℕ) (count : ℕ) (table : List ℕ) (n a b : ℕ)
       module _ (now : Quality) (now-is : now ≡ round) where
         decides : noneBetter its ≡ not (worse now q)
         decides =
-            let (r, top, same) = best-whole its (given .sound) three way carries q is in
-            best-decides its (given .sound) three top q (record { over = carries .fraction q (ap bestOf is) }) same
+            let (r, top, same) = best-whole its (given .sound) three way is-best q is in
+            best-decides its (given .sound) three top q (record { over = is-best .fraction q (ap bestOf is) }) same
             ∙ ap (λ p. not (worse p q)) (sym (now-is ∙ round-now))
 
-        pub gives-16 : worse now q ≡ false → noPlan (Refused 16) ≡ planOf its
+        pub gives-16 : worse now q ≡ false → (plan : Plan) → plan ≡ noPlan (Refused 16) → Plans its plan
         unfolding firstRefusal before testOf
         gives-16 e = refusal 15 (rw (level, roomy, some-way)) (decides ∙ ap not e)
 
-        pub gives-0 : worse now q ≡ true → _≡_ {A = Plan} (record { answer = Done; rows = way .rows }) (planOf its)
-        unfolding planWith planAnswer firstRefusal
+        pub gives-0 : worse now q ≡ true → Plans its (record { answer = Done; apexes = way .apexes })
+        unfolding planAnswer firstRefusal
         gives-0 e =
             let z : planAnswer its ≡ 0 = rw (level, roomy, some-way, decides ∙ ap not e) in
-            rw (z, carries .rows q (ap bestOf is))
+            record { answer = sym (ap answerOf z); apexes = λ _. is-best .apexes q (ap bestOf is) }
 
-  -- ---- what was planned
+  -- ---- behind answer 0
 
-  module _ (planned : Plan) (i : planned ≡ planOf its) where
-    pub plan-refused : (k : ℕ) → planned .answer ≡ Refused k → Number (planAnswer its) k
-    unfolding planWith
-    plan-refused k h = number-handed (planAnswer its) k (sym (ap (λ (p : Plan). p .answer) i) ∙ h)
+  module _ (passed : planAnswer its ≡ 0) where
+    pub plan-way : noWay its ≡ false
+    unfolding planAnswer testOf
+    plan-way = passes 15 tests numbered passed
 
-    module _ (h : planned .answer ≡ Done) where
-      pub plan-passes : planAnswer its ≡ 0
-      unfolding planWith
-      plan-passes = handed-done (planAnswer its) (planned .answer) (ap (λ (p : Plan). p .answer) i) h
-
-      pub plan-rows : planned .rows ≡ rowsWith (tableAfter its (chosen its))
-      unfolding planWith
-      plan-rows =
-          ap (λ (p : Plan). p .rows) i ∙ ap (λ n. rowsWith (cond (eqb n 0) (tableAfter its (chosen its)) [])) plan-passes
-
-      has-way : noWay its ≡ false
-      unfolding planAnswer testOf
-      has-way = passes 15 tests numbered plan-passes
-
-      enough : rowsAfter its ≤ maxRows
-      unfolding planAnswer testOf
-      enough = ltb-false maxRows (rowsAfter its) (passes 14 tests numbered plan-passes)
-
-      few-after : length (tableAfter its (chosen its)) ≤ maxRows
-      few-after = omega (arith, chosen-rows its (given .sound) three has-way, enough)
-
-      rows-after : rowsIn (planned .rows .table) (planned .rows .n) ≡ tableAfter its (chosen its)
-      rows-after =
-          ap (λ (rows : Rows). rowsIn (rows .table) (rows .n)) plan-rows ∙ table-read (tableAfter its (chosen its))
-
-      -- the rows afterwards can be measured
-      pub plan-measured : Measured coordinates count (planned .rows .table) (planned .rows .n)
-      unfolding siteOf coordinateOver
-      plan-measured =
-          let size : length (planned .rows .table) ≡ tableBytes = ap (λ (rows : Rows). length (rows .table)) plan-rows
-          ∙ table-size (tableAfter its (chosen its)) few-after in
-          let number : planned .rows .n ≡ length (tableAfter its (chosen its)) = ap (λ (rows : Rows). rows .n) plan-rows in
-          let fit = keeps-fits (length (its .points)) (tableAfter its (chosen its)) (chosen-keeps its (given .sound) three has-way) in
-          let own = subst (λ c. T (every (numbersFit c) (tableAfter its (chosen its)))) (points-length coordinates count) fit in
-          record {
-            points-held = given .measured .points-held;
-            rows-held = omega (arith, size, number, few-after);
-            rows-most = omega (arith, number, few-after);
-            on-grid = given .measured .on-grid;
-            proper = rw rows-after own;
-          }
-
-      pub plan-after : patchIn coordinates count (planned .rows .table) (planned .rows .n) ≡ patchAfter its
-      unfolding patchAfter siteOf
-      plan-after = rw rows-after
+    pub plan-room : rowsAfter its ≤ maxRows
+    unfolding planAnswer testOf
+    plan-room = ltb-false maxRows (rowsAfter its) (passes 14 tests numbered passed)

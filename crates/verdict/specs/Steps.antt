@@ -1,15 +1,24 @@
 -- What only contracts of inner functions and proofs say: the plan of a removal.
 use Prim.Native.Nat.{ℕ}
-use Rattle.answers.specs.Answers.{firstRefusal}
+use mathlib.Core.Path.{_≡_}
+use lib.ListN.{replicate}
+use Rattle.answers.specs.declared.Answer.{Answer}
+use Rattle.answers.specs.Answers.{firstRefusal, answerOf}
 use Rattle.ring.specs.Ring.{Site}
+use Rattle.cells.specs.Steps.{cells}
 use Rattle.calls.specs.Removing.{replacementTests}
-use Rattle.replacement.specs.declared.Plan.{Plan}
-use Rattle.replacement.specs.Steps.{planWith}
+use Rattle.replacement.specs.Steps.{StandFor}
+use Rattle.verdict.specs.declared.Plan.{Plan}
 
 -- 19 and 14 to 16, tested from the top
 unfoldable pub planAnswer : Site → ℕ
 planAnswer site = firstRefusal (replacementTests site)
 
--- the answer and, with answer 0, the rows afterwards
-abbrev pub planOf : Site → Plan
-planOf site = planWith (planAnswer site) site
+-- a refusal returns its number and nothing else
+abbrev pub noPlan : Answer → Plan
+noPlan answer = record { answer = answer; apexes = replicate cells 0 }
+
+-- The answer and, with answer 0, the apexes of the chosen triangulation.
+pub record Plans (site : Site) (plan : Plan) : Type 0 where
+  pub answer : plan .answer ≡ answerOf (planAnswer site)
+  pub apexes : planAnswer site ≡ 0 → StandFor site (plan .apexes)

@@ -2,18 +2,33 @@
 ghost use mathlib.Core.Path.{_≡_};
 ghost use Rattle.triangulation.specs.Steps.{siteIn};
 ghost use Rattle.edge.specs.Steps.{Ringed};
-ghost use Rattle.verdict.specs.Steps.{planOf};
+ghost use Rattle.verdict.specs.Steps.{Plans, noPlan};
 use answers::Answer;
 use cells::Best;
+use cells::CELLS;
 use flatness::not_flat;
 use flatness::rows_after;
 use layout::MAX_ROWS;
-use replacement::Plan;
-use replacement::carry_out;
-use replacement::no_plan;
+use replacement::best_way;
 use ring::Ring;
 
-// Answers 19 and 14 to 16 of a removal and, with answer 0, the rows afterwards.
+// Answers 19 and 14 to 16 of a removal and, with answer 0, the apexes of the chosen triangulation.
+pub struct Plan {
+    pub answer: Answer,
+    pub apexes: [u8; CELLS],
+}
+
+// A refusal stands beside no apexes.
+fn no_plan(answer: Answer) -> Plan
+    ensures { λ r. ⌜ r ≡ noPlan answer ⌝ }
+{
+    Plan {
+        answer,
+        apexes: [0; CELLS],
+    }
+}
+
+// The plan of a removal: nothing is carried out or copied before it is decided.
 pub fn decide(
     coordinates: &[u8],
     count: usize,
@@ -25,7 +40,7 @@ pub fn decide(
     ring: Ring,
 ) -> Plan
     requires { ⌜ Ringed (now coordinates) count (now table) n a b closed ring ⌝ }
-    ensures { λ r. ⌜ r ≡ planOf (siteIn (now (coordinates .entry)) count (now (table .entry)) n a b) ⌝ }
+    ensures { λ r. ⌜ Plans (siteIn (now (coordinates .entry)) count (now (table .entry)) n a b) r ⌝ }
 {
     if not_flat(coordinates, count, a, b, closed, ring) {
         return no_plan(Answer::Refused(answers::NOT_FLAT));
@@ -34,9 +49,9 @@ pub fn decide(
     if MAX_ROWS < rows_after(closed, n, m) {
         return no_plan(Answer::Refused(answers::NO_ROOM));
     }
-    let way = carry_out(coordinates, count, table, n, a, b, closed, ring);
+    let way = best_way(coordinates, count, table, n, a, b, closed, ring);
     let best = way.best;
-    let rows = way.rows;
+    let apexes = way.apexes;
     let Best::Worst(worst) = best else {
         return no_plan(Answer::Refused(answers::BLOCKED));
     };
@@ -46,6 +61,6 @@ pub fn decide(
     }
     Plan {
         answer: Answer::Done,
-        rows,
+        apexes,
     }
 }

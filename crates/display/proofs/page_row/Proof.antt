@@ -14,16 +14,15 @@ worst-row-requires-2 c κs = search needs
 
 of-requires : tie.Need-of-requires
 of-requires c κs =
-    let start = c .before .before .before .before .before .before .before in
+    let start = c .before .before .before .before .before in
     let args = start .args in
-    worst-carries (args .coordinates .now) (args .count) (args .table .now) (args .n) (start .pre .0) _
-    (c .before .before .before .before .worst-row .ensures)
+    worst-carries (args .coordinates .now) (args .count) (args .table .now) (args .n) (start .pre .0) _ (c .before .worst-row .ensures)
 
 of-requires-2 : tie.Need-of-requires-2
 of-requires-2 c κs =
-    let start = c .before .before .before .before .before .before .before .before in
+    let start = c .before .before .before .before .before .before in
     let args = start .args in
-    worst-carries (args .coordinates .now) (args .count) (args .t5 .table) (args .t5 .n) (start .pre .1) _ (c .before .worst-row2 .ensures)
+    worst-carries (args .coordinates .now) (args .count) (args .rows .now) (args .k) (start .pre .1) _ (c .before .worst-row2 .ensures)
 
 of-requires-3 : tie.Need-of-requires-3
 of-requires-3 c κs = search needs
@@ -32,7 +31,7 @@ returns : tie.Need-returns
 returns c =
     c .of3 .ensures
     ∙ ap₂ pageRow
-    (c .before .before .of .ensures ∙ ap shown (c .before .before .before .before .before .before .before .worst-row .ensures))
+    (c .before .before .of .ensures ∙ ap shown (c .before .before .before .before .worst-row .ensures))
     (c .before .of2 .ensures ∙ ap shown (c .before .before .before .worst-row2 .ensures))
 
 pub page-row-spec : {M : Type 1} → statement M

@@ -1,10 +1,11 @@
--- `write` copies the front and the table, stores the number of rows between, and stamps the sums.
-use mathlib.Core.Path.{refl, _∙_}
+-- `write` copies the front and the table behind it, and finishes the block.
+use mathlib.Core.Path.{refl, ap, _∙_}
 use native.Mathlib.Omega.{arith}
 use borrow.Author.Needs.{needs}
-use lib.ListN.{length-set}
+use lib.ListN.{take, set}
+use Rattle.layout.specs.Layout.{bodyBytes, sealed}
 use Rattle.block.proofs.RightBlocks.{right-block}
-use Rattle.output.proofs.BlockAfterwards.{block-afterwards}
+use Rattle.output.proofs.BlockAfterwards.{both-copied, block-finished}
 use Rattle.output.proofs.write.Statement.{statement}
 use Rattle.output.proofs.write.Tie as tie
 
@@ -22,12 +23,6 @@ part-copy-end c =
 copy-requires : tie.Need-copy-requires
 copy-requires c κs = search needs
 
-cast-out : tie.Need-cast-out
-cast-out c = search needs
-
-slice-write-out : tie.Need-slice-write-out
-slice-write-out c = search needs
-
 sub-copy-2 : tie.Need-sub-copy-2
 sub-copy-2 c = search needs
 
@@ -35,27 +30,30 @@ part-copy-start-2 : tie.Need-part-copy-start-2
 part-copy-start-2 c = search needs
 
 part-copy-end-2 : tie.Need-part-copy-end-2
-part-copy-end-2 c = simp length-set (omega arith)
+part-copy-end-2 c = search needs
 
 copy-requires-2 : tie.Need-copy-requires-2
 copy-requires-2 c κs = search needs
 
-stamp-requires : tie.Need-stamp-requires
-stamp-requires c κs = c .before .before .out2 .given .1 ∙ simp length-set (omega arith)
+finish-requires : tie.Need-finish-requires
+finish-requires c κs = search needs
 
 same-length : tie.Need-same-length
-same-length c =
-    let stored = c .before .before .before .before .before in
-    c .before .out3 .given ∙ (stored .out2 .given .1 ∙ simp length-set (omega arith))
+same-length c = search needs
 
 returns : tie.Need-returns
 returns c =
-    let stamped = c .before .before in
-    let copied = stamped .before .before .before .before in
+    let finished = c .before .before in
+    let copied = finished .before .before .before .before in
     let first = copied .before .before .before .before in
     let start = first .before .before .before .before .before .before in
-    block-afterwards (start .args .block .now) (start .args .rows .now) (start .args .n) (start .args .out .now) (start .pre) _ _ _ _
-    (first .copy .ensures) (copied .copy2 .ensures) refl (stamped .stamp .ensures)
+    let block = start .args .block .now in
+    let rows = start .args .rows .now in
+    let n = start .args .n in
+    block-finished block rows n (start .args .out .now) (start .pre) _ _
+    (finished .finish .ensures
+    ∙ ap (λ bytes. sealed (take bodyBytes (set bytes 2 n)))
+    (both-copied block rows n (start .args .out .now) (start .pre) _ _ _ (first .copy .ensures) (copied .copy2 .ensures) refl))
 
 pub write-spec : {M : Type 1} → statement M
 write-spec =
@@ -65,12 +63,10 @@ write-spec =
     part-copy-start
     part-copy-end
     copy-requires
-    cast-out
-    slice-write-out
     sub-copy-2
     part-copy-start-2
     part-copy-end-2
     copy-requires-2
-    stamp-requires
+    finish-requires
     same-length
     returns)

@@ -4,11 +4,8 @@ use Rattle.sumpnewt.proofs.HandedToC.{page-handed}
 use Rattle.sumpnewt.proofs.sumpnewt_page.Statement.{statement}
 use Rattle.sumpnewt.proofs.sumpnewt_page.Tie as tie
 
-slice-aggregate-remove : tie.Need-slice-aggregate-remove
-slice-aggregate-remove c = search needs
-
-remove-requires : tie.Need-remove-requires
-remove-requires c κs = search needs
+page-requires : tie.Need-page-requires
+page-requires c κs = search needs
 
 store-page-requires : tie.Need-store-page-requires
 store-page-requires c κs = search needs
@@ -21,11 +18,11 @@ same-length c = search needs
 
 returns : tie.Need-returns
 returns c =
-    let stored = c .before .before .store-page in
-    let call = c .before .before .before .before .before in
-    let args = call .before .before .before .before .args in
-    page-handed (args .block .now) (args .row .now) (args .a) (args .b) (call .remove .ensures .0) (stored .ensures .0) (stored .ensures .1)
+    let stored = c .before .before in
+    let call = stored .before .before in
+    let args = call .before .before .before .args in
+    page-handed (args .block .now) (args .row .now) (args .a) (args .b) (call .page .ensures) (stored .store-page .ensures .0)
+    (stored .store-page .ensures .1)
 
 pub sumpnewt-page-spec : {M : Type 1} → statement M
-sumpnewt-page-spec =
-    tie.close (tie.spec slice-aggregate-remove remove-requires store-page-requires cast-result same-length returns)
+sumpnewt-page-spec = tie.close (tie.spec page-requires store-page-requires cast-result same-length returns)

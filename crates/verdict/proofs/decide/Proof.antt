@@ -56,9 +56,8 @@ returns c =
     let judged = c .before .before in
     let start = judged .before .before .before in
     let args = start .args in
-    c .no-plan .ensures
-    ∙ gives-19 (args .coordinates .now) (args .count) (args .table .now) (args .n) (args .a) (args .b) (start .pre)
-    (told judged ∙ c .before .if1 .taken)
+    gives-19 (args .coordinates .now) (args .count) (args .table .now) (args .n) (args .a) (args .b) (start .pre)
+    (told judged ∙ c .before .if1 .taken) _ (c .no-plan .ensures)
 
 cast-m : tie.Need-cast-m
 cast-m c = search needs
@@ -78,12 +77,11 @@ returns-2 c =
     let judged = counted .before .before .before in
     let start = judged .before .before .before in
     let args = start .args in
-    c .no-plan2 .ensures
-    ∙ gives-14 (args .coordinates .now) (args .count) (args .table .now) (args .n) (args .a) (args .b) (start .pre)
-    (told judged ∙ counted .before .before .if1 .left) _ (counted .rows-after .ensures) (c .before .if2 .taken)
+    gives-14 (args .coordinates .now) (args .count) (args .table .now) (args .n) (args .a) (args .b) (start .pre)
+    (told judged ∙ counted .before .before .if1 .left) _ (counted .rows-after .ensures) (c .before .if2 .taken) _ (c .no-plan2 .ensures)
 
-carry-out-requires : tie.Need-carry-out-requires
-carry-out-requires c κs = (c .before .before .before .before .before .before .before .pre, room c)
+best-way-requires : tie.Need-best-way-requires
+best-way-requires c κs = c .before .before .before .before .before .before .before .pre
 
 enum-known-best : tie.Need-enum-known-best
 enum-known-best c = search needs
@@ -99,10 +97,9 @@ returns-3 c =
     let carried = c .before .before .before .before in
     let start = carried .before .before .before .before .before .before .before .before in
     let args = start .args in
-    c .no-plan3 .ensures
-    ∙ gives-15 (args .coordinates .now) (args .count) (args .table .now) (args .n) (args .a) (args .b) (start .pre)
+    gives-15 (args .coordinates .now) (args .count) (args .table .now) (args .n) (args .a) (args .b) (start .pre)
     (level (carried .before)) (room (carried .before))
-    _ (carried .carry-out .ensures) (c .before .enum-told .given .1)
+    _ (carried .best-way .ensures) (c .before .enum-told .given .1) _ (c .no-plan3 .ensures)
 
 worst-round-requires : tie.Need-worst-round-requires
 worst-round-requires c κs = search needs
@@ -120,11 +117,10 @@ returns-4 c =
     let carried = told .before .before .before in
     let start = carried .before .before .before .before .before .before .before .before in
     let args = start .args in
-    c .no-plan4 .ensures
-    ∙ gives-16 (args .coordinates .now) (args .count) (args .table .now) (args .n) (args .a) (args .b) (start .pre)
+    gives-16 (args .coordinates .now) (args .count) (args .table .now) (args .n) (args .a) (args .b) (start .pre)
     (level (carried .before)) (room (carried .before))
-    _ (carried .carry-out .ensures) _ (told .best .given .1) _ (compared .before .worst-round .ensures)
-    (sym (compared .worse .ensures) ∙ not-true _ (c .before .if3 .taken))
+    _ (carried .best-way .ensures) _ (told .best .given .1) _ (compared .before .worst-round .ensures)
+    (sym (compared .worse .ensures) ∙ not-true _ (c .before .if3 .taken)) _ (c .no-plan4 .ensures)
 
 returns-5 : tie.Need-returns-5
 returns-5 c =
@@ -135,7 +131,7 @@ returns-5 c =
     let args = start .args in
     gives-0 (args .coordinates .now) (args .count) (args .table .now) (args .n) (args .a) (args .b) (start .pre)
     (level (carried .before)) (room (carried .before))
-    _ (carried .carry-out .ensures) _ (told .best .given .1) _ (compared .before .worst-round .ensures)
+    _ (carried .best-way .ensures) _ (told .best .given .1) _ (compared .before .worst-round .ensures)
     (sym (compared .worse .ensures) ∙ not-false _ (c .if3 .left))
 
 pub decide-spec : {M : Type 1} → statement M
@@ -149,7 +145,7 @@ decide-spec =
     rows-after-requires
     no-plan-requires-2
     returns-2
-    carry-out-requires
+    best-way-requires
     enum-known-best
     enum-told
     no-plan-requires-3

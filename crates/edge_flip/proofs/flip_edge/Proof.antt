@@ -1,0 +1,239 @@
+-- Each way out is one case of the laws on the 3-2 flip; with answers 9 to 13 behind it the edge has its ring.
+use Prim.Native.Nat.{ℕ, _<_, _≤_}
+use mathlib.Core.List.{List}
+use mathlib.Core.Path.{_≡_, refl, _∙_}
+use native.Mathlib.Omega.{arith}
+use borrow.Author.Needs.{needs}
+use lib.ListN.{length}
+use Rattle.answers.specs.declared.Answer.the-variants.{Done}
+use Rattle.layout.specs.Layout.{blockBytes}
+use Rattle.block.specs.Opening.{openAnswer}
+use Rattle.tally.proofs.OpensMeasured.{block-size}
+use Rattle.ring.specs.declared.Found.{Found}
+use Rattle.ring.specs.Ring.{ringsAlone}
+use Rattle.cells.specs.Steps.{cells}
+use Rattle.output.proofs.BlockFilledIn.{begun-empty}
+use Rattle.edge.specs.Steps.{edgeFound}
+use Rattle.edge.proofs.EdgeRinged.{ends-bytes, ringed}
+use Rattle.edge_flip.proofs.FlippedEdges.{edge-refuses, not-three, no-way, carriable, room-for, done-answer, done-bytes}
+use Rattle.edge_flip.proofs.flip_edge.Statement.{statement}
+use Rattle.edge_flip.proofs.flip_edge.Tie as tie
+
+-- behind answers 9 to 13
+abbrev At-edge : Type 0
+At-edge = tie.After-enum-told
+
+abbrev blockOf : At-edge → List ℕ
+blockOf k = k .before .before .before .before .before .before .args .block .now
+
+abbrev outOf : At-edge → List ℕ
+outOf k = k .before .before .before .before .before .before .args .out .now
+
+opens : (k : At-edge) → openAnswer (blockOf k) ≡ 0
+opens k = k .before .before .before .before .before .before .pre .0
+
+room : (k : At-edge) → length (outOf k) ≡ blockBytes
+room k = k .before .before .before .before .before .before .pre .1
+
+abbrev eOf : At-edge → ℕ
+eOf k = k .before .before .before .before .before .before .args .e
+
+abbrev fOf : At-edge → ℕ
+fOf k = k .before .before .before .before .before .before .args .f
+
+abbrev foundAt : At-edge → Found
+foundAt k = k .before .before .before .edge-at .result
+
+is-found : (k : At-edge) → foundAt k ≡ edgeFound ringsAlone (blockOf k) (eOf k) (fOf k)
+is-found k = k .before .before .before .edge-at .ensures
+
+is-done : (k : At-edge) → foundAt k .answer ≡ Done
+is-done k = k .enum-told .given .1
+
+size : (k : At-edge) → length (blockOf k) ≡ blockBytes
+size k = block-size (blockOf k) (opens k)
+
+ends : (k : At-edge) → (eOf k < 256) × (fOf k < 256)
+ends k = ends-bytes ringsAlone (blockOf k) (eOf k) (fOf k) (opens k) (foundAt k) (is-found k) (is-done k)
+
+-- the apexes are whole
+whole : (k : tie.After-best-way) → length (k .best-way .result .apexes) ≡ cells
+whole k = search needs
+
+edge-at-requires : tie.Need-edge-at-requires
+edge-at-requires c κs = search needs
+
+enum-told : tie.Need-enum-told
+enum-told c = search needs
+
+enum-told-2 : tie.Need-enum-told-2
+enum-told-2 c = search needs
+
+returns : tie.Need-returns
+returns c =
+    let edge = c .before .before .before in
+    let start = edge .before .before .before in
+    let args = start .args in
+    let kept = edge-refuses (args .block .now) (args .out .now) (args .e) (args .f) (start .pre .0) (start .pre .1) _ (edge .edge-at .ensures) _
+    (c .enum-told2 .given .1) in
+    (kept .told, kept .same)
+
+returns-2 : tie.Need-returns-2
+returns-2 c =
+    let k = c .before .before in
+    let kept = not-three (blockOf k) (outOf k) (eOf k) (fOf k) (opens k) (room k) (foundAt k) (is-found k) (is-done k) (c .if1 .taken) in
+    (kept .told, kept .same)
+
+shared-slice-read-count : tie.Need-shared-slice-read-count
+shared-slice-read-count c = omega (arith, size (c .before .before .before))
+
+cast-count : tie.Need-cast-count
+cast-count c = omega (arith, c .shared-slice-known2 .given 1)
+
+shared-slice-read-n : tie.Need-shared-slice-read-n
+shared-slice-read-n c = omega (arith, size (c .before .before .before .before))
+
+cast-n : tie.Need-cast-n
+cast-n c = omega (arith, c .shared-slice-known3 .given 2)
+
+sub-coordinates : tie.Need-sub-coordinates
+sub-coordinates c = search needs
+
+part-coordinates-start : tie.Need-part-coordinates-start
+part-coordinates-start c = search needs
+
+part-coordinates-end : tie.Need-part-coordinates-end
+part-coordinates-end c = omega (arith, size (c .before .before .before .before))
+
+sub-table : tie.Need-sub-table
+sub-table c = search needs
+
+part-table-start : tie.Need-part-table-start
+part-table-start c = search needs
+
+part-table-end : tie.Need-part-table-end
+part-table-end c = omega (arith, size (c .before .before .before .before .before))
+
+smaller-requires : tie.Need-smaller-requires
+smaller-requires c κs = ends (c .before .before .before .before .before .before)
+
+larger-requires : tie.Need-larger-requires
+larger-requires c κs = ends (c .before .before .before .before .before .before .before)
+
+best-way-requires : tie.Need-best-way-requires
+best-way-requires c κs =
+    let k = c .before .before .before .before .before .before .before .before in
+    ringed ringsAlone (blockOf k) (eOf k) (fOf k) (opens k) (foundAt k) (is-found k) (is-done k) _ _ (c .before .smaller .ensures)
+    (c .larger .ensures)
+
+enum-told-3 : tie.Need-enum-told-3
+enum-told-3 c = search needs
+
+enum-told-4 : tie.Need-enum-told-4
+enum-told-4 c = search needs
+
+returns-3 : tie.Need-returns-3
+returns-3 c =
+    let best = c .before .before .before in
+    let three = best .before .before .before .before .before .before .before in
+    let k = three .before .before in
+    let kept = no-way (blockOf k) (outOf k) (eOf k) (fOf k) (opens k) (room k) (foundAt k) (is-found k) (is-done k) (three .if1 .left) _ _
+    (best .before .before .smaller .ensures) (best .before .larger .ensures) _ (best .best-way .ensures) (c .enum-told4 .given .1) in
+    (kept .told, kept .same)
+
+begin-requires : tie.Need-begin-requires
+begin-requires c κs = search needs
+
+sub-carry-out : tie.Need-sub-carry-out
+sub-carry-out c = search needs
+
+part-carry-out-start : tie.Need-part-carry-out-start
+part-carry-out-start c = search needs
+
+part-carry-out-end : tie.Need-part-carry-out-end
+part-carry-out-end c = search needs
+
+carry-out-requires : tie.Need-carry-out-requires
+carry-out-requires c κs =
+    let begun = c .before .before .before .before in
+    let worst = begun .before .before in
+    let best = worst .before .before .before in
+    let three = best .before .before .before .before .before .before .before in
+    let k = three .before .before in
+    let p = best .before .before .smaller .ensures in
+    let q = best .before .larger .ensures in (
+      ringed ringsAlone (blockOf k) (eOf k) (fOf k) (opens k) (foundAt k) (is-found k) (is-done k) _ _ p q,
+      carriable (blockOf k) (outOf k) (eOf k) (fOf k) (opens k) (room k) (foundAt k) (is-found k) (is-done k) (three .if1 .left) _ _ p q _
+          (best .best-way .ensures) _ (worst .enum-told3 .given .1) (whole best)
+          (begun-empty (blockOf k) (opens k) _ _ (begun .begin .ensures)),
+    )
+
+finish-requires : tie.Need-finish-requires
+finish-requires c κs =
+    let carried = c .before .before .before in
+    let begun = carried .before .before .before .before .before in
+    let worst = begun .before .before in
+    let best = worst .before .before .before in
+    let three = best .before .before .before .before .before .before .before in
+    let k = three .before .before in
+    let p = best .before .before .smaller .ensures in
+    let q = best .before .larger .ensures in (
+      c .before .before .out2 .given .1 ∙ c .before .before .before .before .before .before .before .out .given ∙ room k,
+      room-for (blockOf k) (outOf k) (eOf k) (fOf k) (opens k) (room k) (foundAt k) (is-found k) (is-done k) (three .if1 .left) _ _ p q _
+          (best .best-way .ensures) _ (worst .enum-told3 .given .1) _ (carried .carry-out .ensures .0),
+    )
+
+same-length : tie.Need-same-length
+same-length c = search needs
+
+returns-4 : tie.Need-returns-4
+returns-4 c =
+    let finished = c .before .before in
+    let carried = finished .before .before .before .before in
+    let begun = carried .before .before .before .before .before in
+    let worst = begun .before .before in
+    let best = worst .before .before .before in
+    let three = best .before .before .before .before .before .before .before in
+    let k = three .before .before in
+    let p = best .before .before .smaller .ensures in
+    let q = best .before .larger .ensures in (
+      done-answer (blockOf k) (outOf k) (eOf k) (fOf k) (opens k) (room k) (foundAt k) (is-found k) (is-done k) (three .if1 .left) _ _ p q _
+          (best .best-way .ensures) _ (worst .enum-told3 .given .1) _ (carried .carry-out .ensures .0),
+      done-bytes (blockOf k) (outOf k) (eOf k) (fOf k) (opens k) (room k) (foundAt k) (is-found k) (is-done k) (three .if1 .left) _ _ p q _
+          (best .best-way .ensures) _ (worst .enum-told3 .given .1) _ (carried .carry-out .ensures .0) _ _ _ _ (carried .carry-out .ensures .1)
+          (begun .begin .ensures) refl (finished .finish .ensures),
+    )
+
+pub flip-edge-spec : {M : Type 1} → statement M
+flip-edge-spec =
+    tie.close
+    (tie.spec
+    edge-at-requires
+    enum-told
+    enum-told-2
+    returns
+    returns-2
+    shared-slice-read-count
+    cast-count
+    shared-slice-read-n
+    cast-n
+    sub-coordinates
+    part-coordinates-start
+    part-coordinates-end
+    sub-table
+    part-table-start
+    part-table-end
+    smaller-requires
+    larger-requires
+    best-way-requires
+    enum-told-3
+    enum-told-4
+    returns-3
+    begin-requires
+    sub-carry-out
+    part-carry-out-start
+    part-carry-out-end
+    carry-out-requires
+    finish-requires
+    same-length
+    returns-4)

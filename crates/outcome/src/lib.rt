@@ -1,0 +1,62 @@
+// The removal of an edge that is decided, carried out: the rows afterwards, written where they belong, and the page row.
+ghost use mathlib.Core.Path.{_≡_};
+ghost use lib.ListN.{length, replicate};
+ghost use Rattle.block.specs.Opening.{openAnswer};
+ghost use Rattle.cells.specs.Steps.{cells};
+ghost use Rattle.output.specs.Steps.{tableBytes};
+ghost use Rattle.attempt.specs.Steps.{Replaceable};
+ghost use Rattle.outcome.specs.Steps.{Replaces};
+use cells::CELLS;
+use display::page_row;
+use edge::larger;
+use edge::smaller;
+use layout::BODY_BYTES;
+use layout::POINTS_AT;
+use layout::ROWS_AT;
+use page::PageRow;
+use replacement::carry_out;
+use ring::Ring;
+
+// How many rows there are afterwards, and the page row.
+pub struct After {
+    pub n: usize,
+    pub page: PageRow,
+}
+
+// The rows afterwards, written into an empty table.
+pub fn replace(
+    block: &[u8],
+    e: usize,
+    f: usize,
+    closed: bool,
+    ring: Ring,
+    apexes: &[u8; CELLS],
+    rows: &mut [u8],
+) -> After
+    requires { ⌜ (openAnswer (now block) ≡ 0) × Replaceable (now block) e f closed ring (now apexes) ⌝ }
+    requires { ⌜ (length (now apexes) ≡ cells) × (now rows ≡ replicate tableBytes 0) ⌝ }
+    ensures { λ r. ⌜ Replaces (now (block .entry)) e f (now (rows .exit)) r ⌝ }
+{
+    let count = block[1] as usize;
+    let n = block[2] as usize;
+    let coordinates = &block[POINTS_AT..ROWS_AT];
+    let table = &block[ROWS_AT..BODY_BYTES];
+    let a = smaller(e, f);
+    let b = larger(e, f);
+    let end = carry_out(
+        coordinates,
+        count,
+        table,
+        n,
+        a,
+        b,
+        closed,
+        ring,
+        apexes,
+        rows,
+    );
+    After {
+        n: end,
+        page: page_row(coordinates, count, table, n, rows, end),
+    }
+}

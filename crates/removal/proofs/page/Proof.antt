@@ -1,0 +1,100 @@
+-- A refusal is the removal's; with answer 0 the page row is.
+use mathlib.Core.Path.{_≡_, sym, ap, _∙_}
+use borrow.Author.Needs.{needs}
+use lib.ListN.{length}
+use Rattle.answers.specs.Answers.{answerOf}
+use Rattle.block.specs.Opening.{openAnswer}
+use Rattle.calls.specs.declared.Removed.{Removed}
+use Rattle.calls.proofs.HandedOn.{handed-done}
+use Rattle.cells.specs.Steps.{cells}
+use Rattle.removal.proofs.RemovalWritten.{refusal-gives, front-number, tried-number, replaceable, done-gives, blank, blank-size, blank-opened}
+use Rattle.removal.proofs.page.Statement.{statement}
+use Rattle.removal.proofs.page.Tie as tie
+
+-- the block opens
+opens : (k : tie.After-enum-told) → openAnswer (k .before .before .before .before .args .block .now) ≡ 0
+opens k =
+    let answered = k .before .before in
+    handed-done (openAnswer (answered .before .before .args .block .now)) _ (answered .opening .ensures) (k .enum-told .given .1)
+
+-- the apexes are whole
+whole : (k : tie.After-attempt) → length (k .attempt .result .apexes) ≡ cells
+whole k = search needs
+
+opening-requires : tie.Need-opening-requires
+opening-requires c κs = search needs
+
+enum-known-opened : tie.Need-enum-known-opened
+enum-known-opened c = search needs
+
+returns : tie.Need-returns
+returns c =
+    let answered = c .before .before .before in
+    let args = answered .before .before .args in
+    let number = front-number (args .block .now) blank (args .e) (args .f) _
+    (answered .opening .ensures ∙ ap answerOf (sym (blank-opened (args .block .now)))) _ (c .before .opened .given .1) in
+    ap (λ (r : Removed). r .removal) (refusal-gives (args .block .now) blank (args .e) (args .f) _ number)
+
+enum-told : tie.Need-enum-told
+enum-told c = search needs
+
+attempt-requires : tie.Need-attempt-requires
+attempt-requires c κs = opens c
+
+enum-known-answer : tie.Need-enum-known-answer
+enum-known-answer c = search needs
+
+returns-2 : tie.Need-returns-2
+returns-2 c =
+    let tried = c .before .before .before .before .before in
+    let k = tried .before in
+    let args = k .before .before .before .before .args in
+    let number = tried-number (args .block .now) blank (args .e) (args .f) (opens k) blank-size _ (tried .attempt .ensures) _
+    (c .before .answer .given .1) in
+    ap (λ (r : Removed). r .removal) (refusal-gives (args .block .now) blank (args .e) (args .f) _ number)
+
+enum-told-2 : tie.Need-enum-told-2
+enum-told-2 c = search needs
+
+slice-aggregate-replace : tie.Need-slice-aggregate-replace
+slice-aggregate-replace c = search needs
+
+replace-requires : tie.Need-replace-requires
+replace-requires c κs =
+    let done = c .before .before in
+    let tried = done .before .before .before .before in
+    let k = tried .before in
+    let args = k .before .before .before .before .args in (
+      (
+        opens k,
+        replaceable (args .block .now) blank (args .e) (args .f) (opens k) blank-size _ (tried .attempt .ensures) (done .enum-told2 .given .1),
+      ),
+      (whole tried, search needs),
+    )
+
+returns-3 : tie.Need-returns-3
+returns-3 c =
+    let replaced = c .before .before in
+    let done = replaced .before .before .before in
+    let tried = done .before .before .before .before in
+    let k = tried .before in
+    let args = k .before .before .before .before .args in
+    ap (λ (r : Removed). r .removal)
+    (done-gives (args .block .now) blank (args .e) (args .f) (opens k) blank-size _ (tried .attempt .ensures) (done .enum-told2 .given .1) _ _
+    (replaced .replace .ensures))
+
+pub page-spec : {M : Type 1} → statement M
+page-spec =
+    tie.close
+    (tie.spec
+    opening-requires
+    enum-known-opened
+    returns
+    enum-told
+    attempt-requires
+    enum-known-answer
+    returns-2
+    enum-told-2
+    slice-aggregate-replace
+    replace-requires
+    returns-3)
