@@ -1,5 +1,5 @@
--- The cells of the table: their places, and what is read from one.
-use Prim.Native.Nat.{ℕ, zero, suc, _-_, _≤_, _<_}
+-- What is read from a cell of the table.
+use Prim.Native.Nat.{ℕ, zero, suc, _<_}
 use mathlib.Core.Option.{some, Option·none-ne-some, Option·some-injective}
 use mathlib.Core.Path.{_≡_, refl, subst}
 use native.Mathlib.Omega.{arith}
@@ -8,21 +8,7 @@ use Rattle.quality.specs.declared.Kind.{Kind}
 use Rattle.quality.specs.declared.Kind.the-variants.{Upright, Flat, Inverted}
 use Rattle.quality.specs.declared.Quality.{Quality}
 use Rattle.quality.specs.Steps.{fromParts}
-use Rattle.ring.specs.Ring.{maxRing}
-use Rattle.cells.specs.Steps.{cellAt, cells, readBest}
-
--- ---- places
-
--- a cell's place is in range,
-pub cell-in : (i j : ℕ) → 1 ≤ i → i ≤ maxRing → 1 ≤ j → j ≤ maxRing → cellAt i j < cells
-cell-in i j a b c d = omega arith
-
--- and never the same for two cells
-pub cell-apart : (i j l e : ℕ) → 1 ≤ i → i ≤ maxRing → 1 ≤ j → j ≤ maxRing → 1 ≤ l → l ≤ maxRing → 1 ≤ e → e ≤ maxRing
-    → cellAt i j ≡ cellAt l e → (i ≡ l) × (j ≡ e)
-cell-apart i j l e a b c d k m n o q = (omega arith, omega arith)
-
--- ---- what is read from a cell
+use Rattle.cells.specs.Steps.{readBest}
 
 pub parts-are : (kind : Kind) (num den : ℕ) → 0 < den → fromParts kind num den ≡ record { kind = kind; num = num; den = den }
 unfolding fromParts

@@ -1,1 +1,2 @@
 pub mod CellsRead
+pub mod CellPlaces

@@ -1,5 +1,5 @@
 -- What only contracts of inner functions and proofs say: where the table keeps a piece, and what its cells stand for.
-use Prim.Native.Nat.{ℕ, zero, suc, _+_, _-_, _*_}
+use Prim.Native.Nat.{ℕ, zero, suc, _-_, _*_, _/_}
 use mathlib.Core.List.{List}
 use mathlib.Core.Option.{Option, none, some}
 use lib.ListN.{getD}
@@ -28,13 +28,13 @@ choiceOf (Apex k q) = some (k, q)
 
 -- ---- the arrays of the table
 
--- one cell for each pair of ring places
+-- one cell for each piece of the longest ring
 abbrev pub cells : ℕ
-cells = maxRing * maxRing
+cells = (maxRing - 1) * (maxRing - 2) / 2
 
--- where the flat arrays keep piece (i,j)
-abbrev pub cellAt : ℕ → ℕ → ℕ
-cellAt i j = (i - 1) * maxRing + (j - 1)
+-- where the flat arrays keep piece (i,j), with j at least i + 2: the pieces that end before j come first, then (j - 2,j) down to (1,j)
+unfoldable pub cellAt : ℕ → ℕ → ℕ
+cellAt i j = (j - 1) * (j - 2) / 2 - i
 
 -- what a cell keeps as a best worst, or the mark: 0 for the mark, 1 inverted, 2 flat, 3 upright; a denominator of 0 makes no quality
 unfoldable pub readBest : ℕ → ℕ → ℕ → Option Quality

@@ -1,6 +1,6 @@
 // One cell of the table of pieces: where it stands, and a best worst and an apex packed into flat arrays.
 ghost use mathlib.Core.Path.{_≡_};
-ghost use Prim.Native.Nat.{_<_, _≤_};
+ghost use Prim.Native.Nat.{_+_, _<_, _≤_};
 ghost use lib.ListN.{length, getD};
 ghost use Rattle.ring.specs.Ring.{maxRing};
 ghost use Rattle.cells.specs.Steps.{bestOf, cellAt, cellOf, cells, kindCode, readBest};
@@ -8,8 +8,8 @@ use quality::Kind;
 use quality::Quality;
 use ring::MAX_RING;
 
-// The cells of a table: one for each pair of ring places.
-pub const CELLS: usize = MAX_RING * MAX_RING;
+// The cells of a table: one for each piece of the longest ring.
+pub const CELLS: usize = (MAX_RING - 1) * (MAX_RING - 2) / 2;
 
 // The best worst of a piece, or the mark.
 pub enum Best {
@@ -33,10 +33,10 @@ pub struct Cell {
 
 // Where the flat arrays keep piece (i,j).
 pub fn cell_at(i: usize, j: usize) -> usize
-    requires { ⌜ (1 ≤ i) × (i ≤ maxRing) × (1 ≤ j) × (j ≤ maxRing) ⌝ }
-    ensures { λ r. ⌜ r ≡ cellAt i j ⌝ }
+    requires { ⌜ (1 ≤ i) × (i + 2 ≤ j) × (j ≤ maxRing) ⌝ }
+    ensures { λ r. ⌜ (r ≡ cellAt i j) × (r < cells) ⌝ }
 {
-    (i - 1) * MAX_RING + (j - 1)
+    (j - 1) * (j - 2) / 2 - i
 }
 
 // The best worst that a cell keeps, or the mark.
