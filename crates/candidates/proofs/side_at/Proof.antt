@@ -25,7 +25,7 @@ returns-2 : tie.Need-returns-2
 returns-2 c =
     let e = c .before .before .before in
     let a = e .before .args in
-    let used = rw (c .before .before .cell-at .ensures) at (c .if2 .taken) in
+    let used = rw (c .before .before .cell-at .ensures .0) at (c .if2 .taken) in
     sym (side-used (now (a .kinds)) (now (a .nums)) (now (a .dens)) (now (a .used)) (a .i) (a .j) (e .if1 .left) used)
 
 best-at-requires : tie.Need-best-at-requires
@@ -42,8 +42,8 @@ returns-3 c =
     let b = c .before .before in
     let s = b .before .before .before in
     let a = s .before .before .args in
-    let used = rw (s .cell-at .ensures) at (b .before .if2 .left) in
-    let best = rw (s .cell-at .ensures) at (b .best-at .ensures) in
+    let used = rw (s .cell-at .ensures .0) at (b .before .if2 .left) in
+    let best = rw (s .cell-at .ensures .0) at (b .best-at .ensures) in
     sym (side-read (now (a .kinds)) (now (a .nums)) (now (a .dens)) (now (a .used)) (a .i) (a .j) (s .before .if1 .left) used none
     (rw (c .enum-told .given .1) at best))
 
@@ -52,8 +52,8 @@ returns-4 c =
     let b = c .before .before .before in
     let s = b .before .before .before in
     let a = s .before .before .args in
-    let used = rw (s .cell-at .ensures) at (b .before .if2 .left) in
-    let best = rw (s .cell-at .ensures) at (b .best-at .ensures) in
+    let used = rw (s .cell-at .ensures .0) at (b .before .if2 .left) in
+    let best = rw (s .cell-at .ensures .0) at (b .best-at .ensures) in
     sym (side-read (now (a .kinds)) (now (a .nums)) (now (a .dens)) (now (a .used)) (a .i) (a .j) (s .before .if1 .left) used (some _)
     (rw (c .before .best .given .1) at best))
 

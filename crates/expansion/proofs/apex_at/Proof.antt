@@ -16,7 +16,7 @@ cast-result c =
     let s = c .before .before in
     let a = s .args in
     let high = s .pre .1 .high (a .i) (a .j) (omega arith) (s .pre .3) (omega arith) in
-    rw (c .before .cell-at .ensures) (omega (arith, high))
+    rw (c .before .cell-at .ensures .0) (omega (arith, high))
 
 returns : tie.Need-returns
 returns c =
@@ -24,7 +24,7 @@ returns c =
     let a = s .args in
     let high = s .pre .1 .high (a .i) (a .j) (omega arith) (s .pre .3) (omega arith) in
     let low = s .pre .1 .low (a .i) (a .j) (omega arith) (s .pre .3) (omega arith) in
-    rw (c .before .cell-at .ensures) (refl, high, low)
+    rw (c .before .cell-at .ensures .0) (refl, high, low)
 
 pub apex-at-spec : {M : Type 1} → statement M
 apex-at-spec = tie.close (tie.spec cell-at-requires element-copy-out-result cast-result returns)
