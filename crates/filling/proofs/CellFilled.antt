@@ -4,21 +4,20 @@ use mathlib.Core.Bool.{Bool, false, _||_}
 use mathlib.Core.List.{List}
 use mathlib.Core.Option.{Option, none, some, Option·map, Option·none-ne-some, Option·some-injective}
 use mathlib.Core.Path.{_≡_, refl, sym, ap, ap₂, _∙_, subst}
-use native.Mathlib.Decide.{ℕ-discrete}
+use native.Mathlib.Decide.{decLt}
 use native.Mathlib.Omega.{arith}
 use lib.Dec.{T}
-use lib.ListN.{length, getD, set, replicate, getD-replicate}
+use lib.ListN.{length, getD, set, length-set}
 use lib.Seq.{getD-set-same, getD-set-other}
 use Rattle.lists.specs.Lists.{any}
 use Rattle.lists.proofs.Tests.{or-false}
 use Rattle.quality.specs.declared.Kind.{Kind}
 use Rattle.quality.specs.declared.Kind.the-variants.{Upright, Flat, Inverted}
 use Rattle.quality.specs.declared.Quality.{Quality}
-use Rattle.ring.specs.Ring.{Site, m, maxRing}
+use Rattle.ring.specs.Ring.{Site, m}
 use Rattle.cells.specs.declared.Cell.{Cell}
 use Rattle.cells.specs.declared.Choice.{Choice}
 use Rattle.cells.specs.declared.Choice.the-variants.{Nothing, Apex}
-use Rattle.filling.specs.declared.Filling.{Filling}
 use Rattle.kept_faces.specs.declared.Rim.{Rim}
 use Rattle.triangulation.specs.Triangulation.{v}
 use Rattle.triangulation.specs.Admissible.{keptUses, diagonalFaces}
@@ -28,9 +27,10 @@ use Rattle.candidates.specs.Steps.{Arrays}
 use Rattle.choice.specs.Steps.{Known, KnownIn, Smaller}
 use Rattle.triangulation.specs.Steps.{candidate, bestFound}
 use Rattle.kept_faces.specs.Steps.{usedBy, SiteRim, OnRim, end-a, end-b, ring-point}
-use Rattle.filling.specs.Steps.{Blank, Done}
+use Rattle.filling.specs.Steps.{Done}
 use Rattle.triangulation.proofs.ApexOfPiece.{apex-between}
-use Rattle.cells.proofs.CellsRead.{cell-in, cell-apart, parts-are, read-fraction}
+use Rattle.cells.proofs.CellPlaces.{cell-apart, cell-last, cell-order}
+use Rattle.cells.proofs.CellsRead.{parts-are, read-fraction}
 use Rattle.triangulation.proofs.FirstOfTheBest.{Led}
 use Rattle.triangulation.proofs.Recurrence.{Agrees, found-led, found-apex, found-best, led-fraction}
 
@@ -109,153 +109,105 @@ side-found {site} given {i} {j} start long end =
     rw (given .a, given .b, given .v i start (omega arith), given .v j (omega arith) end)
     (ap₂ _||_ (given .uses end-a x y) (given .uses end-b x y ∙ sym (or-false (keptUses site (site .b, v site i, v site j)))))
 
--- ---- the table, filled up to a cell
+-- ---- the table, filled up to a place
 
--- The pieces (l,e) with l over i are filled, and the pieces (i,e) with e below j.
-pub record Upto (site : Site) (filling : Filling) (i j : ℕ) : Type 0 where
-  pub known : (l e : ℕ) → i ≤ l → l + 2 ≤ e → e ≤ m site → (l ≡ i → e < j)
-      → KnownIn site (filling .kinds) (filling .nums) (filling .dens) (filling .used) l e
-  pub apexes : (l e : ℕ) → i ≤ l → l + 2 ≤ e → e ≤ m site → (l ≡ i → e < j) → apexIn (filling .apexes) l e ≡ apex site l e
+-- The arrays are whole.
+pub record Whole (kinds nums dens apexes : List ℕ) (used : List Bool) : Type 0 where
+  pub arrays : Arrays kinds nums dens used
+  pub all-apexes : length apexes ≡ cells
 
--- The arrays of a filling are whole.
-pub record Whole (filling : Filling) : Type 0 where
-  pub arrays : Arrays (filling .kinds) (filling .nums) (filling .dens) (filling .used)
-  pub all-apexes : length (filling .apexes) ≡ cells
+pub whole-more : {kinds nums dens apexes : List ℕ} {used : List Bool} {ks ns ds xs : List ℕ} (at : ℕ) (cell : Cell) (closing : Bool)
+    → Whole kinds nums dens apexes used
+    → (ks ≡ set kinds at (cell .kind)) × (ns ≡ set nums at (cell .num)) × (ds ≡ set dens at (cell .den)) × (xs ≡ set apexes at (cell .apex))
+    → Whole ks ns ds xs (set used at closing)
+whole-more at cell closing whole after =
+    rw (after .0, after .1, after .2, after .3) (record {
+      arrays = record {
+        all-kinds = simp length-set (whole .arrays .all-kinds);
+        all-nums = simp length-set (whole .arrays .all-nums);
+        all-dens = simp length-set (whole .arrays .all-dens);
+        all-used = simp length-set (whole .arrays .all-used);
+      };
+      all-apexes = simp length-set (whole .all-apexes);
+    })
 
-pub upto-start : {site : Site} {filling : Filling} {i : ℕ} → Done site filling (i + 1) → Upto site filling i (i + 2)
-upto-start {i = i} done =
-    record {
-      known = λ l e a b c d. done .known l e (over l e a b d) b c;
-      apexes = λ l e a b c d. done .apexes l e (over l e a b d) b c;
-    }
-  where
-    over : (l e : ℕ) → i ≤ l → l + 2 ≤ e → (l ≡ i → e < i + 2) → i + 1 ≤ l
-    over l e a b d = go (ℕ-discrete l i)
-      where
-        go : Dec (l ≡ i) → i + 1 ≤ l
-        go (yes s) = absurd (omega (arith, d s))
-        go (no s) = omega arith
+-- The pieces with a place before `at` are filled.
+pub record Upto (site : Site) (kinds nums dens apexes : List ℕ) (used : List Bool) (at : ℕ) : Type 0 where
+  pub known : (l e : ℕ) → 1 ≤ l → l + 2 ≤ e → e ≤ m site → cellAt l e < at → KnownIn site kinds nums dens used l e
+  pub chosen : (l e : ℕ) → 1 ≤ l → l + 2 ≤ e → e ≤ m site → cellAt l e < at → apexIn apexes l e ≡ apex site l e
 
-pub upto-end : {site : Site} {filling : Filling} {i j : ℕ} → m site < j → Upto site filling i j → Done site filling i
-upto-end h upto =
-    record {
-      known = λ l e a b c. upto .known l e a b c (λ s. omega arith);
-      apexes = λ l e a b c. upto .apexes l e a b c (λ s. omega arith);
-    }
+module _ {site : Site} {kinds nums dens apexes : List ℕ} {used : List Bool} where
+  pub upto-start : Upto site kinds nums dens apexes used 0
+  upto-start = record { known = λ l e a b c d. absurd (omega arith); chosen = λ l e a b c d. absurd (omega arith) }
 
--- the smaller pieces inside (i,j) are filled
-pub upto-smaller : {site : Site} {filling : Filling} {i j : ℕ} → j ≤ m site → Upto site filling i j
-    → Smaller site (filling .kinds) (filling .nums) (filling .dens) (filling .used) i j
-upto-smaller h upto l e a b c d = upto .known l e a c (omega arith) (λ s. omega arith)
+  module _ {at : ℕ} (upto : Upto site kinds nums dens apexes used at) where
+    pub upto-end : cellAt 1 (m site) < at → Done site kinds nums dens apexes
+    upto-end h =
+        record {
+          best = λ l e a b c. upto .known l e a b c (omega (arith, cell-last l e (m site) a b c)) .best;
+          chosen = λ l e a b c. upto .chosen l e a b c (omega (arith, cell-last l e (m site) a b c));
+        }
 
--- a cell and its closing side, stored
-abbrev pub put : Filling → ℕ → Cell → Bool → Filling
-put filling at cell closing =
-    record {
-      kinds = set (filling .kinds) at (cell .kind);
-      nums = set (filling .nums) at (cell .num);
-      dens = set (filling .dens) at (cell .den);
-      apexes = set (filling .apexes) at (cell .apex);
-      used = set (filling .used) at closing;
-    }
+    module _ {i j : ℕ} (start : 1 ≤ i) (long : i + 2 ≤ j) (end : j ≤ m site) (here : cellAt i j ≡ at) where
+      -- the smaller pieces inside (i,j) are filled
+      pub upto-smaller : Smaller site kinds nums dens used i j
+      upto-smaller l e a b c d =
+          upto .known l e (omega arith) c (omega arith) (omega (arith, cell-order l e i j (omega arith) c long b (λ same. omega arith)))
 
-module _ {site : Site} {filling : Filling} {i j : ℕ} (whole : Whole filling)
-    (start : 1 ≤ i) (long : i + 2 ≤ j) (end : j ≤ m site) (short : m site ≤ maxRing) (upto : Upto site filling i j)
-    (choice : Choice) (is : choiceOf choice ≡ bestFound site (bestIn (filling .kinds) (filling .nums) (filling .dens)) i j)
-    (closing : Bool) (used : closing ≡ any (keptUses site) (diagonalFaces site (i, j))) where
-  abbrev next : Filling
-  next = put filling (cellAt i j) (cellOf choice) closing
+      module _ (whole : Whole kinds nums dens apexes used) (room : at < cells)
+          (choice : Choice) (is : choiceOf choice ≡ bestFound site (bestIn kinds nums dens) i j)
+          {closing : Bool} (found : closing ≡ any (keptUses site) (diagonalFaces site (i, j))) where
+        abbrev cell : Cell
+        cell = cellOf choice
 
-  in-range : cellAt i j < cells
-  in-range = cell-in i j start (omega arith) (omega arith) (omega arith)
+        own-known : KnownIn site (set kinds at (cell .kind)) (set nums at (cell .num)) (set dens at (cell .den)) (set used at closing) i j
+        own-known =
+            rw (
+              here,
+              getD-set-same kinds at (cell .kind) 0 (omega (arith, whole .arrays .all-kinds)),
+              getD-set-same nums at (cell .num) 0 (omega (arith, whole .arrays .all-nums)),
+              getD-set-same dens at (cell .den) 0 (omega (arith, whole .arrays .all-dens)),
+              getD-set-same used at closing false (omega (arith, whole .arrays .all-used)),
+            ) (cell-known kinds nums dens used long upto-smaller choice is found)
 
-  -- (l,e) is another cell
-  other : (l e : ℕ) → i ≤ l → l + 2 ≤ e → e ≤ m site → (l ≡ i → e < j) → cellAt l e ≡ cellAt i j → ⊥
-  other l e a b c d s =
-      let apart = cell-apart l e i j (omega arith) (omega arith) (omega arith) (omega arith) start (omega arith)
-      (omega arith) (omega arith) s in
-      omega (arith, d (apart .0), apart .1)
+        own-apex : apexIn (set apexes at (cell .apex)) i j ≡ apex site i j
+        own-apex =
+            ap (λ there. codedApex (getD (set apexes at (cell .apex)) there 0)) here
+            ∙ ap codedApex (getD-set-same apexes at (cell .apex) 0 (omega (arith, whole .all-apexes)))
+            ∙ apex-stored kinds nums dens used long upto-smaller choice is
 
-  own-known : KnownIn site (next .kinds) (next .nums) (next .dens) (next .used) i j
-  own-known =
-      let at = cellAt i j in
-      let c = cellOf choice in
-      rw (
-        getD-set-same (filling .kinds) at (c .kind) 0 (omega (arith, whole .arrays .all-kinds, in-range)),
-        getD-set-same (filling .nums) at (c .num) 0 (omega (arith, whole .arrays .all-nums, in-range)),
-        getD-set-same (filling .dens) at (c .den) 0 (omega (arith, whole .arrays .all-dens, in-range)),
-        getD-set-same (filling .used) at closing false (omega (arith, whole .arrays .all-used, in-range)),
-      ) (cell-known (filling .kinds) (filling .nums) (filling .dens) (filling .used) long (upto-smaller end upto) choice is used)
+        other-known : (l e : ℕ) → 1 ≤ l → l + 2 ≤ e → e ≤ m site → cellAt l e < at
+            → KnownIn site (set kinds at (cell .kind)) (set nums at (cell .num)) (set dens at (cell .den)) (set used at closing) l e
+        other-known l e a b c d =
+            let there = cellAt l e in
+            let apart : there ≡ at → ⊥ = λ s. omega arith in
+            rw (
+              getD-set-other kinds at there (cell .kind) 0 apart,
+              getD-set-other nums at there (cell .num) 0 apart,
+              getD-set-other dens at there (cell .den) 0 apart,
+              getD-set-other used at there closing false apart,
+            ) (upto .known l e a b c d)
 
-  own-apex : apexIn (next .apexes) i j ≡ apex site i j
-  own-apex =
-      ap codedApex (getD-set-same (filling .apexes) (cellAt i j) (cellOf choice .apex) 0 (omega (arith, whole .all-apexes, in-range)))
-      ∙ apex-stored (filling .kinds) (filling .nums) (filling .dens) (filling .used) long (upto-smaller end upto) choice is
+        other-apex : (l e : ℕ) → 1 ≤ l → l + 2 ≤ e → e ≤ m site → cellAt l e < at
+            → apexIn (set apexes at (cell .apex)) l e ≡ apex site l e
+        other-apex l e a b c d =
+            ap codedApex (getD-set-other apexes at (cellAt l e) (cell .apex) 0 (λ s. omega arith)) ∙ upto .chosen l e a b c d
 
-  other-known : (l e : ℕ) → i ≤ l → l + 2 ≤ e → e ≤ m site → (l ≡ i → e < j)
-      → KnownIn site (next .kinds) (next .nums) (next .dens) (next .used) l e
-  other-known l e a b c d =
-      let at = cellAt i j in
-      let there = cellAt l e in
-      let cell = cellOf choice in
-      let apart = other l e a b c d in
-      rw (
-        getD-set-other (filling .kinds) at there (cell .kind) 0 apart,
-        getD-set-other (filling .nums) at there (cell .num) 0 apart,
-        getD-set-other (filling .dens) at there (cell .den) 0 apart,
-        getD-set-other (filling .used) at there closing false apart,
-      ) (upto .known l e a b c d)
+        -- the piece (i,j) itself, or one filled before
+        by-cell : (P : ℕ → ℕ → Type 0) → P i j → ((l e : ℕ) → 1 ≤ l → l + 2 ≤ e → e ≤ m site → cellAt l e < at → P l e)
+            → (l e : ℕ) → 1 ≤ l → l + 2 ≤ e → e ≤ m site → cellAt l e < at + 1 → P l e
+        by-cell P own others l e a b c d = go (decLt (cellAt l e) at)
+          where
+            go : Dec (cellAt l e < at) → P l e
+            go (yes h) = others l e a b c h
+            go (no h) = let same = cell-apart l e i j a b start long (omega arith) in rw (same .0, same .1) own
 
-  other-apex : (l e : ℕ) → i ≤ l → l + 2 ≤ e → e ≤ m site → (l ≡ i → e < j) → apexIn (next .apexes) l e ≡ apex site l e
-  other-apex l e a b c d =
-      ap codedApex (getD-set-other (filling .apexes) (cellAt i j) (cellAt l e) (cellOf choice .apex) 0 (other l e a b c d))
-      ∙ upto .apexes l e a b c d
-
-  -- the piece (i,j) itself, or one filled before
-  by-cell : (P : ℕ → ℕ → Type 0) → P i j → ((l e : ℕ) → i ≤ l → l + 2 ≤ e → e ≤ m site → (l ≡ i → e < j) → P l e)
-      → (l e : ℕ) → i ≤ l → l + 2 ≤ e → e ≤ m site → (l ≡ i → e < j + 1) → P l e
-  by-cell P own others l e a b c d = go (ℕ-discrete l i) (ℕ-discrete e j)
-    where
-      go : Dec (l ≡ i) → Dec (e ≡ j) → P l e
-      go (yes s) (yes t) = rw (s, t) own
-      go (yes s) (no t) = others l e a b c (λ r. omega (arith, d s))
-      go (no s) t = others l e a b c (λ r. absurd (s r))
-
-  upto-put : Upto site next i (j + 1)
-  upto-put =
-      record {
-        known = by-cell (KnownIn site (next .kinds) (next .nums) (next .dens) (next .used)) own-known other-known;
-        apexes = by-cell (λ l e. apexIn (next .apexes) l e ≡ apex site l e) own-apex other-apex;
-      }
-
-  -- the same, as the code has the cell
-  pub upto-more : {at : ℕ} {cell : Cell} → at ≡ cellAt i j → cell ≡ cellOf choice → Upto site (put filling at cell closing) i (j + 1)
-  upto-more {at} {cell} e c = rw (e, c) upto-put
-
--- ---- cells that are no piece's
-
--- no piece is stored in a cell that is no piece's
-pub blank-put : (filling : Filling) (cell : Cell) (closing : Bool) {size i j at : ℕ} → at ≡ cellAt i j → 1 ≤ i → i + 2 ≤ j
-    → j ≤ size → size ≤ maxRing
-    → Blank (filling .kinds) (filling .nums) (filling .dens) (filling .apexes) size
-    → let next = put filling at cell closing in Blank (next .kinds) (next .nums) (next .dens) (next .apexes) size
-blank-put filling cell closing {size} {i} {j} {at} s start long end short blank l e a b c d no-piece =
-    let before = blank l e a b c d no-piece in
-    let there = cellAt l e in
-    let apart : there ≡ at → ⊥ =
-    λ q.
-    let same = cell-apart l e i j a b c d start (omega arith) (omega arith) (omega arith) (q ∙ s) in
-    no-piece (omega (arith, same .0, same .1)) (omega (arith, same .1)) in
-    record {
-      kind = getD-set-other (filling .kinds) at there (cell .kind) 0 apart ∙ before .kind;
-      num = getD-set-other (filling .nums) at there (cell .num) 0 apart ∙ before .num;
-      den = getD-set-other (filling .dens) at there (cell .den) 0 apart ∙ before .den;
-      apex = getD-set-other (filling .apexes) at there (cell .apex) 0 apart ∙ before .apex;
-    }
-
--- all zeros
-pub blank-start : (size : ℕ) → let zeros : List ℕ = replicate cells 0 in Blank zeros zeros zeros zeros size
-blank-start size l e a b c d no-piece =
-    let zeros : List ℕ = replicate cells 0 in
-    let empty : getD zeros (cellAt l e) 0 ≡ 0 = getD-replicate cells (cellAt l e) 0 0 (cell-in l e a b c d) in
-    record { kind = empty; num = empty; den = empty; apex = empty }
+        pub upto-more : {ks ns ds xs : List ℕ}
+            → (ks ≡ set kinds at (cell .kind)) × (ns ≡ set nums at (cell .num)) × (ds ≡ set dens at (cell .den)) × (xs ≡ set apexes at (cell .apex))
+            → Upto site ks ns ds xs (set used at closing) (at + 1)
+        upto-more after =
+            rw (after .0, after .1, after .2, after .3) (record {
+              known = by-cell (KnownIn site (set kinds at (cell .kind)) (set nums at (cell .num)) (set dens at (cell .den)) (set used at closing))
+                  own-known other-known;
+              chosen = by-cell (λ l e. apexIn (set apexes at (cell .apex)) l e ≡ apex site l e) own-apex other-apex;
+            })
