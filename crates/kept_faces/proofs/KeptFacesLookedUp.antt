@@ -1,6 +1,6 @@
--- Looking up the keys of the gathered faces is looking at every kept row, for a face whose numbers are all allMet:
+-- Looking up the keys of the gathered faces is looking at every kept row, for a face whose numbers are all met:
 -- a face of a kept row that is the same face has the same numbers, so it was gathered.
-use Prim.Native.Nat.{ℕ, _+_, _<_}
+use Prim.Native.Nat.{ℕ, _+_, _%_, _<_}
 use mathlib.Core.Bool.{Bool, true, false, not, _&&_}
 use mathlib.Core.List.{List, [], _∷_, _++_, map, flatMap, append-nil, append-assoc, List·Memᴰ, Memᴰ·map, Memᴰ·of-map, map-append}
 use mathlib.Core.Path.{_≡_, sym, ap, _∙_, subst}
@@ -22,7 +22,7 @@ use Rattle.keys.specs.Steps.{faceKey}
 use Rattle.mesh.proofs.TurnedFaces.{Turned, as-is, once, twice, same-turned, turned-same, uses-e, uses-i}
 use Rattle.keys.proofs.FaceKeys.{Small, key-same, same-key, faces-small}
 use Rattle.rows.proofs.RowsOfTables.{Bytes, rows-more}
-use Rattle.kept_faces.specs.Steps.{allMet, keyed, keptOf, keptKeys}
+use Rattle.kept_faces.specs.Steps.{places, metAt, allMet, keyed, keptOf, keptKeys}
 
 -- gathering goes by parts
 pub keyed-append : (met : List Bool) (fs gs : List Face) → keyed met (fs ++ gs) ≡ keyed met fs ++ keyed met gs
@@ -30,7 +30,7 @@ unfolding keyed
 keyed-append met fs gs =
     ap (map faceKey) (those-append (allMet met) fs gs) ∙ map-append faceKey (those (allMet met) fs) (those (allMet met) gs)
 
--- a face that is allMet is gathered, and one that is not is not
+-- a face whose numbers are all met is gathered, and another is not
 pub keyed-one : (met : List Bool) (f : Face) → allMet met f ≡ true → keyed met (f ∷ []) ≡ faceKey f ∷ []
 unfolding keyed those
 keyed-one met f e = rw e
@@ -39,7 +39,7 @@ pub keyed-none : (met : List Bool) (f : Face) → allMet met f ≡ false → key
 unfolding keyed those
 keyed-none met f e = rw e
 
--- what the keys are after a face that is not allMet, and after one that is
+-- what the keys are after a face that is not gathered, and after one that is
 
 pub passed-over : (keys : List ℕ) (met : List Bool) (f : Face) → allMet met f ≡ false → keys ≡ keys ++ keyed met (f ∷ [])
 passed-over keys met f e = sym (ap (λ ks. keys ++ ks) (keyed-none met f e) ∙ append-nil keys)
@@ -88,44 +88,45 @@ kept-more table met a b i =
     ∙ ap (keyed met) (flatMap-append faces kept one)
     ∙ keyed-append met (flatMap faces kept) (flatMap faces one))
 
--- a point more leaves those that are met
-pub still-met : (met : List Bool) (x n : ℕ) → x < length met → getD met n false ≡ true → getD (set met x true) n false ≡ true
-still-met met x n h e = go (ℕ-discrete n x)
-  where
-    go : Dec (n ≡ x) → getD (set met x true) n false ≡ true
-    go (yes s) = rw s (getD-set-same met x true false h)
-    go (no s) = getD-set-other met x n true false s ∙ e
+-- a point is met once its place is set
+pub just-met : (met : List Bool) (n at : ℕ) → at ≡ n % places → at < length met → metAt (set met at true) n ≡ true
+just-met met n at is h = rw (← is) (getD-set-same met at true false h)
 
--- one point more is allMet
-pub one-more : (met : List Bool) (ns : List ℕ) (i at : ℕ) → at ≡ getD ns i 0 → at < length met
-    → ((l : ℕ) → l < i → getD met (getD ns l 0) false ≡ true)
-    → (l : ℕ) → l < i + 1 → getD (set met at true) (getD ns l 0) false ≡ true
+-- a point more leaves those that are met
+pub still-met : (met : List Bool) (x n : ℕ) → x < length met → metAt met n ≡ true → metAt (set met x true) n ≡ true
+still-met met x n h e = go (ℕ-discrete (n % places) x)
+  where
+    go : Dec (n % places ≡ x) → metAt (set met x true) n ≡ true
+    go (yes s) = just-met met n x (sym s) h
+    go (no s) = getD-set-other met x (n % places) true false s ∙ e
+
+-- one point more is met
+pub one-more : (met : List Bool) (ns : List ℕ) (i at : ℕ) → at ≡ getD ns i 0 % places → at < length met
+    → ((l : ℕ) → l < i → metAt met (getD ns l 0) ≡ true)
+    → (l : ℕ) → l < i + 1 → metAt (set met at true) (getD ns l 0) ≡ true
 one-more met ns i at is h all l k = go (decLt l i)
   where
-    go : Dec (l < i) → getD (set met at true) (getD ns l 0) false ≡ true
+    go : Dec (l < i) → metAt (set met at true) (getD ns l 0) ≡ true
     go (yes c) = still-met met at (getD ns l 0) h (all l c)
     go (no c) =
         let e : l ≡ i = omega arith in
-        rw (e, ← is) (getD-set-same met at true false h)
+        rw e (just-met met (getD ns i 0) at is h)
 
 -- the same face has the same numbers
 met-turned : (met : List Bool) (f g : Face) → Turned f g → T (allMet met f) → T (allMet met g)
 met-turned met f g turned h = go turned
   where
-    is-met : ℕ → Bool
-    is-met n = getD met n false
+    one : T (metAt met (f .0))
+    one = and-l (metAt met (f .0)) (metAt met (f .1)) (and-l (metAt met (f .0) && metAt met (f .1)) (metAt met (f .2)) h)
 
-    one : T (is-met (f .0))
-    one = and-l (is-met (f .0)) (is-met (f .1)) (and-l (is-met (f .0) && is-met (f .1)) (is-met (f .2)) h)
+    two : T (metAt met (f .1))
+    two = and-r (metAt met (f .0)) (metAt met (f .1)) (and-l (metAt met (f .0) && metAt met (f .1)) (metAt met (f .2)) h)
 
-    two : T (is-met (f .1))
-    two = and-r (is-met (f .0)) (is-met (f .1)) (and-l (is-met (f .0) && is-met (f .1)) (is-met (f .2)) h)
+    three : T (metAt met (f .2))
+    three = and-r (metAt met (f .0) && metAt met (f .1)) (metAt met (f .2)) h
 
-    three : T (is-met (f .2))
-    three = and-r (is-met (f .0) && is-met (f .1)) (is-met (f .2)) h
-
-    all : T (is-met (g .0)) → T (is-met (g .1)) → T (is-met (g .2)) → T (allMet met g)
-    all a b c = and-i (is-met (g .0) && is-met (g .1)) (is-met (g .2)) (and-i (is-met (g .0)) (is-met (g .1)) a b) c
+    all : T (metAt met (g .0)) → T (metAt met (g .1)) → T (metAt met (g .2)) → T (allMet met g)
+    all a b c = and-i (metAt met (g .0) && metAt met (g .1)) (metAt met (g .2)) (and-i (metAt met (g .0)) (metAt met (g .1)) a b) c
 
     go : Turned f g → T (allMet met g)
     go (as-is a b c) = all (rw a at one) (rw b at two) (rw c at three)

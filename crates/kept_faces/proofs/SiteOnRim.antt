@@ -2,7 +2,6 @@
 use Prim.Native.Nat.{ℕ, zero, suc, _+_, _-_, _≤_, _<_}
 use mathlib.Core.Bool.{Bool, true, false, cond, not, _&&_, _||_}
 use mathlib.Core.List.{List}
-use mathlib.Core.Option.{none}
 use mathlib.Core.Path.{_≡_, refl, sym, ap, ap₂, _∙_, subst}
 use native.Mathlib.Decide.{decLt}
 use native.Mathlib.Nat.{min-eq-left, max-eq-right}
@@ -26,7 +25,7 @@ use Rattle.ring.specs.Ring.{Site, siteOf, m, maxRing, ringWith}
 use Rattle.kept_faces.specs.declared.Rim.{Rim}
 use Rattle.triangulation.specs.Triangulation.{v}
 use Rattle.triangulation.specs.Admissible.{keptUses, barred}
-use Rattle.kept_faces.specs.Steps.{RimMet, keptOf, keptKeys, usedBy, SiteRim, OnRim, Fillable, Rimmed, end-a, end-b, ring-point}
+use Rattle.kept_faces.specs.Steps.{metAt, keptOf, Gathered, usedBy, SiteRim, OnRim, Fillable, Rimmed, end-a, end-b, ring-point}
 use Rattle.triangulation.specs.Steps.{siteIn}
 use Rattle.triangulation.proofs.Barred.{ring-faces, chain-faces}
 use Rattle.kept_faces.proofs.KeptFacesLookedUp.{key-kept}
@@ -114,20 +113,24 @@ module _ {coordinates : List ℕ} {count : ℕ} {table : List ℕ} {n a b : ℕ}
         v = λ i h. omega (arith, v-below i h, fillable .points);
       }
 
-  module _ {met : List Bool} (are : RimMet met rim (ring .m)) (bytes : (j : ℕ) → getD table j 0 < 256) where
-    on-met : {k : ℕ} → OnRim site k → T (getD met k false)
-    on-met end-a = subst (λ k. T (getD met k false)) (sym (a-is coordinates count table n a b (fillable .ordered)))
-        (is-yes (getD met a false) (are .a))
-    on-met end-b = subst (λ k. T (getD met k false)) (sym (b-is coordinates count table n a b (fillable .ordered)))
-        (is-yes (getD met b false) (are .b))
+  module _ {keys : List ℕ} (gathered : Gathered keys rim (ring .m) (keptOf a b (rowsIn table n)))
+      (bytes : (j : ℕ) → getD table j 0 < 256) where
+    abbrev is-met : ℕ → Bool
+    is-met k = metAt (gathered .met) k
+
+    on-met : {k : ℕ} → OnRim site k → T (is-met k)
+    on-met end-a = subst (λ k. T (is-met k)) (sym (a-is coordinates count table n a b (fillable .ordered)))
+        (is-yes (is-met a) (gathered .points .a))
+    on-met end-b = subst (λ k. T (is-met k)) (sym (b-is coordinates count table n a b (fillable .ordered)))
+        (is-yes (is-met b) (gathered .points .b))
     on-met (ring-point zero s h) = absurd (omega arith)
     on-met (ring-point (suc i) s h) =
-        subst (λ k. T (getD met k false)) (front i (omega arith))
-        (is-yes (getD met (getD (ring .v) i 0) false) (are .v i (omega (arith, size-is))))
+        subst (λ k. T (is-met k)) (front i (omega arith))
+        (is-yes (is-met (getD (ring .v) i 0)) (gathered .points .v i (omega (arith, size-is))))
 
     -- a face of points on the rim, looked up in its direction
     face-is : {x y z : ℕ} → OnRim site x → OnRim site y → OnRim site z
-        → has (keptKeys met (keptOf a b (rowsIn table n))) (faceKey (x, y, z)) ≡ any (uses (x, y, z)) (site .kept)
+        → has keys (faceKey (x, y, z)) ≡ any (uses (x, y, z)) (site .kept)
     face-is {x} {y} {z} on-x on-y on-z =
         let kept = keptOf a b (rowsIn table n) in
         let small : Small (x, y, z) =
@@ -136,40 +139,38 @@ module _ {coordinates : List ℕ} {count : ℕ} {table : List ℕ} {n a b : ℕ}
           small-1 = omega (arith, on-below on-y, fillable .few-points);
           small-2 = omega (arith, on-below on-z, fillable .few-points);
         } in
-        let is-met : ℕ → Bool = λ k. getD met k false in
         let all = and-i (is-met x && is-met y) (is-met z) (and-i (is-met x) (is-met y) (on-met on-x) (on-met on-y)) (on-met on-z) in
-        key-kept met kept
+        ap (λ ks. has ks (faceKey (x, y, z))) (gathered .are)
+        ∙ key-kept (gathered .met) kept
         (λ row k. rows-bytes table bytes n row (those-e (λ row. not (holdsEdge a b row)) (rowsIn table n) k .0))
         (x, y, z) small all
         ∙ ap (any (uses (x, y, z))) (sym (kept-rows coordinates count table n a b (fillable .ordered)))
 
     -- and either way round
-    uses-are : {x y z : ℕ} → OnRim site x → OnRim site y → OnRim site z
-        → usedBy (keptKeys met (keptOf a b (rowsIn table n))) (x, y, z) ≡ keptUses site (x, y, z)
+    uses-are : {x y z : ℕ} → OnRim site x → OnRim site y → OnRim site z → usedBy keys (x, y, z) ≡ keptUses site (x, y, z)
     uses-are {x} {y} {z} on-x on-y on-z =
         ap₂ _||_ (face-is on-x on-y on-z) (face-is on-x on-z on-y) ∙ sym (any-or (uses (x, y, z)) (uses (x, z, y)) (site .kept))
 
-    pub site-rim : {keys : List ℕ} → keys ≡ keptKeys met (keptOf a b (rowsIn table n)) → SiteRim site coordinates rim keys
-    site-rim e =
+    pub site-rim : SiteRim site coordinates rim keys
+    site-rim =
         record {
           a = sym (a-is coordinates count table n a b (fillable .ordered));
           b = sym (b-is coordinates count table n a b (fillable .ordered));
           v = v-is;
           places = places-are;
-          uses = λ x y z. rw e (uses-are x y z);
+          uses = uses-are;
         }
 
     -- whether a kept row bars the chain, by the keys
-    pub barred-found : {keys : List ℕ} → keys ≡ keptKeys met (keptOf a b (rowsIn table n))
-        → let x = getD (ring .v) 0 0 in
+    pub barred-found : let x = getD (ring .v) 0 0 in
         let y = getD (ring .v) (ring .m - 1) 0 in
         cond closed false (has keys (faceKey (a, x, y)) || has keys (faceKey (b, y, x))) ≡ barred site
     unfolding barred any
-    barred-found {keys} e = rw (fillable .is-closed) (go (site .closed) refl)
+    barred-found = rw (fillable .is-closed) (go (site .closed) refl)
       where
         found : {end x y f p q : ℕ} → end ≡ f → x ≡ p → y ≡ q → OnRim site f → OnRim site p → OnRim site q
             → has keys (faceKey (end, x, y)) ≡ any (uses (f, p, q)) (site .kept)
-        found r s t on-f on-p on-q = rw (r, s, t, e) (face-is on-f on-p on-q)
+        found r s t on-f on-p on-q = rw (r, s, t) (face-is on-f on-p on-q)
 
         x : ℕ
         x = getD (ring .v) 0 0

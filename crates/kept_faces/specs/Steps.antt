@@ -1,6 +1,6 @@
 -- What only contracts of inner functions and proofs say: the points that new rows have, and the faces of kept rows that can matter, those
 -- whose numbers are all among a, b, v1..vm. The code looks up their keys.
-use Prim.Native.Nat.{ℕ, _<_, _+_, _-_, _*_, _≤_}
+use Prim.Native.Nat.{ℕ, _<_, _+_, _-_, _*_, _%_, _≤_}
 use mathlib.Core.Bool.{Bool, true, false, not, _&&_, _||_}
 use mathlib.Core.List.{List, map, flatMap}
 use mathlib.Core.Path.{_≡_}
@@ -20,19 +20,23 @@ use Rattle.triangulation.specs.Triangulation.{v}
 use Rattle.triangulation.specs.Admissible.{keptUses}
 use Rattle.triangulation.specs.Steps.{siteIn}
 
--- how many numbers a byte has
-abbrev pub numbersOfAByte : ℕ
-numbersOfAByte = 256
+-- how many places points have: as many as a block has points
+abbrev pub places : ℕ
+places = 64
+
+-- a point is met: it is looked up at its number modulo the places
+abbrev pub metAt : List Bool → ℕ → Bool
+metAt met p = getD met (p % places) false
 
 -- The points a, b and v1 to vm are met.
 pub record RimMet (met : List Bool) (rim : Rim) (m : ℕ) : Type 0 where
-  pub a : getD met (rim .a) false ≡ true
-  pub b : getD met (rim .b) false ≡ true
-  pub v : (i : ℕ) → i < m → getD met (getD (rim .v) i 0) false ≡ true
+  pub a : metAt met (rim .a) ≡ true
+  pub b : metAt met (rim .b) ≡ true
+  pub v : (i : ℕ) → i < m → metAt met (getD (rim .v) i 0) ≡ true
 
 -- a face's three numbers are all met
 abbrev pub allMet : List Bool → Face → Bool
-allMet met f = getD met (f .0) false && getD met (f .1) false && getD met (f .2) false
+allMet met f = metAt met (f .0) && metAt met (f .1) && metAt met (f .2)
 
 -- the keys of the faces whose numbers are all met
 unfoldable pub keyed : List Bool → List Face → List ℕ
@@ -45,6 +49,12 @@ keptOf a b rows = those (λ row. not (holdsEdge a b row)) rows
 -- the keys of the rows' faces whose numbers are all met
 abbrev pub keptKeys : List Bool → List Row → List ℕ
 keptKeys met rows = keyed met (flatMap faces rows)
+
+-- The keys are those of the rows' faces whose numbers are all met, where at least the points of the rim are.
+pub record Gathered (keys : List ℕ) (rim : Rim) (m : ℕ) (rows : List Row) : Type 0 where
+  pub met : List Bool
+  pub points : RimMet met rim m
+  pub are : keys ≡ keptKeys met rows
 
 -- the key of the face, or of the face the other way round, is among the keys
 abbrev pub usedBy : List ℕ → Face → Bool

@@ -2,14 +2,14 @@
 ghost use mathlib.Core.Path.{_≡_};
 ghost use mathlib.Core.List.{[], _∷_, _++_};
 ghost use mathlib.Core.Bool.{false, cond, _||_};
-ghost use Prim.Native.Nat.{_+_, _*_, _<_, _≤_};
+ghost use Prim.Native.Nat.{_+_, _*_, _%_, _<_, _≤_};
 ghost use lib.ListN.{length, take};
 ghost use Rattle.lists.specs.Lists.{has};
 ghost use Rattle.rows.specs.Rows.{rowSize, rowsIn};
 ghost use Rattle.rows.specs.Steps.{mostRows};
 ghost use Rattle.keys.specs.Steps.{mostKeys, rowFaces, faceKey};
 ghost use Rattle.ring.specs.Ring.{maxRing};
-ghost use Rattle.kept_faces.specs.Steps.{numbersOfAByte, RimMet, keyed, keptOf, keptKeys, usedBy};
+ghost use Rattle.kept_faces.specs.Steps.{places, RimMet, keyed, keptOf, keptKeys, Gathered, usedBy};
 use keys::MOST_KEYS;
 use ring::MAX_RING;
 use rows::Row;
@@ -21,56 +21,48 @@ pub struct Rim {
     pub v: [u8; MAX_RING],
 }
 
-// The keys of the faces of kept rows that can matter: n of them.
-pub struct FaceKeys {
-    pub n: usize,
-    pub keys: [u32; MOST_KEYS],
-}
+// The places of points. A block has at most 64 points, so no two of them share one.
+const PLACES: usize = 64;
 
-// The numbers of a byte.
-const NUMBERS: usize = 256;
-
-// A point number as a place among all the numbers of a byte.
+// The place of a point: its number modulo 64.
 fn place(point: u8) -> usize
-    ensures { λ r. ⌜ (r ≡ point) × (r < numbersOfAByte) ⌝ }
+    ensures { λ r. ⌜ (r ≡ point % places) × (r < places) ⌝ }
 {
-    point as usize
+    point as usize % PLACES
 }
 
 // The points a, b and v1 to vm are met.
-pub fn rim_met(rim: Rim, m: usize) -> [bool; NUMBERS]
-    requires { ⌜ m ≤ maxRing ⌝ }
-    ensures { λ r. ⌜ RimMet r rim m ⌝ }
+fn meet(met: &mut [bool; PLACES], rim: Rim, m: usize)
+    requires { ⌜ (length (now met) ≡ places) × (m ≤ maxRing) ⌝ }
+    ensures { λ _. ⌜ (length (now (met .exit)) ≡ places) × RimMet (now (met .exit)) rim m ⌝ }
 {
-    let mut met = [false; NUMBERS];
     met[place(rim.a)] = true;
     met[place(rim.b)] = true;
     for i in 0..m {
         met[place(rim.v[i])] = true;
     }
-    met
 }
 
 // A face's key after the first n, if its numbers are all met; and how many keys there are then.
 fn add_face(
     keys: &mut [u32; MOST_KEYS],
     n: usize,
-    met: &[bool; NUMBERS],
+    met: &[bool; PLACES],
     x: u8,
     y: u8,
     z: u8,
 ) -> usize
-    requires { ⌜ (length (now keys) ≡ mostKeys) × (length (now met) ≡ numbersOfAByte) × (n < mostKeys) ⌝ }
+    requires { ⌜ (length (now keys) ≡ mostKeys) × (length (now met) ≡ places) × (n < mostKeys) ⌝ }
     ensures { λ r. ⌜ (length (now (keys .exit)) ≡ mostKeys) × (r ≤ n + 1)
         × (take r (now (keys .exit)) ≡ take n (now (keys .entry)) ++ keyed (now (met .entry)) ((x, y, z) ∷ [])) ⌝ }
 {
-    if !met[x as usize] {
+    if !met[place(x)] {
         return n;
     }
-    if !met[y as usize] {
+    if !met[place(y)] {
         return n;
     }
-    if !met[z as usize] {
+    if !met[place(z)] {
         return n;
     }
     keys[n] = keys::face_key(x, y, z);
@@ -81,12 +73,12 @@ fn add_face(
 fn add_row(
     keys: &mut [u32; MOST_KEYS],
     n: usize,
-    met: &[bool; NUMBERS],
+    met: &[bool; PLACES],
     a: u8,
     b: u8,
     row: Row,
 ) -> usize
-    requires { ⌜ (length (now keys) ≡ mostKeys) × (length (now met) ≡ numbersOfAByte) × (n + rowFaces ≤ mostKeys) ⌝ }
+    requires { ⌜ (length (now keys) ≡ mostKeys) × (length (now met) ≡ places) × (n + rowFaces ≤ mostKeys) ⌝ }
     ensures { λ r. ⌜ (length (now (keys .exit)) ≡ mostKeys) × (r ≤ n + rowFaces)
         × (take r (now (keys .exit)) ≡ take n (now (keys .entry)) ++ keptKeys (now (met .entry)) (keptOf a b (row ∷ []))) ⌝ }
 {
@@ -99,18 +91,19 @@ fn add_row(
     add_face(keys, three, met, row.p, row.r, row.q)
 }
 
-// The keys of the kept rows' faces whose numbers are all met.
-pub fn gather(table: &[u8], n: usize, a: u8, b: u8, met: &[bool; NUMBERS]) -> FaceKeys
-    requires { ⌜ (rowSize * n ≤ length (now table)) × (n ≤ mostRows) × (length (now met) ≡ numbersOfAByte) ⌝ }
-    ensures { λ r. ⌜ (length (r .keys) ≡ mostKeys) × (r .n ≤ mostKeys)
-        × (take (r .n) (r .keys) ≡ keptKeys (now (met .entry)) (keptOf a b (rowsIn (now (table .entry)) n))) ⌝ }
+// The keys of the kept rows' faces whose numbers are all met, from place 0 on; and how many they are.
+pub fn gather(keys: &mut [u32; MOST_KEYS], table: &[u8], n: usize, rim: Rim, m: usize) -> usize
+    requires { ⌜ (length (now keys) ≡ mostKeys) × (rowSize * n ≤ length (now table)) × (n ≤ mostRows) × (m ≤ maxRing) ⌝ }
+    ensures { λ r. ⌜ (length (now (keys .exit)) ≡ mostKeys) × (r ≤ mostKeys)
+        × Gathered (take r (now (keys .exit))) rim m (keptOf (rim .a) (rim .b) (rowsIn (now (table .entry)) n)) ⌝ }
 {
-    let mut keys = [0u32; MOST_KEYS];
+    let mut met = [false; PLACES];
+    meet(&mut met, rim, m);
     let mut found: usize = 0;
     for i in 0..n {
-        found = add_row(&mut keys, found, met, a, b, rows::row_in(table, i));
+        found = add_row(keys, found, &met, rim.a, rim.b, rows::row_in(table, i));
     }
-    FaceKeys { n: found, keys }
+    found
 }
 
 // Whether a face's key or that of the face the other way round is among the first n.

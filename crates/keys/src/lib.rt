@@ -53,16 +53,15 @@ fn store_keys(keys: &mut [u32; MOST_KEYS], i: usize, row: Row)
     keys[at + 3] = face_key(row.p, row.r, row.q);
 }
 
-// The keys of the first n rows, in order.
-fn keys_of(table: &[u8], n: usize) -> [u32; MOST_KEYS]
-    requires { ⌜ (rowSize * n ≤ length (now table)) × (n ≤ mostRows) ⌝ }
-    ensures { λ r. ⌜ take (rowFaces * n) r ≡ tableKeys (rowsIn (now (table .entry)) n) ⌝ }
+// The keys of the first n rows, in order, from place 0 on.
+fn store_all(keys: &mut [u32; MOST_KEYS], table: &[u8], n: usize)
+    requires { ⌜ (length (now keys) ≡ mostKeys) × (rowSize * n ≤ length (now table)) × (n ≤ mostRows) ⌝ }
+    ensures { λ _. ⌜ (length (now (keys .exit)) ≡ mostKeys)
+        × (take (rowFaces * n) (now (keys .exit)) ≡ tableKeys (rowsIn (now (table .entry)) n)) ⌝ }
 {
-    let mut keys = [0u32; MOST_KEYS];
     for i in 0..n {
-        store_keys(&mut keys, i, rows::row_in(table, i));
+        store_keys(keys, i, rows::row_in(table, i));
     }
-    keys
 }
 
 // Whether a key stands among the first n. Every one of them is looked at, so that several are compared at once.
@@ -108,7 +107,8 @@ pub fn all_apart(table: &[u8], n: usize) -> bool
     requires { ⌜ (rowSize * n ≤ length (now table)) × (n ≤ mostRows) ⌝ }
     ensures { λ r. ⌜ r ≡ facesApart (rowsIn (now (table .entry)) n) ⌝ }
 {
-    let keys = keys_of(table, n);
+    let mut keys = [0u32; MOST_KEYS];
+    store_all(&mut keys, table, n);
     for row in 0..n {
         if !row_apart(&keys, row) {
             return false;

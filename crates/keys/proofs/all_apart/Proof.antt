@@ -24,17 +24,17 @@ abbrev μ-loop : tie.MeasureT-loop
 -- with row i, the rows are apart if they were and the call of `row_apart` says so
 more : (c : tie.After-row-apart Inv-loop μ-loop)
     → (let k = c .before .before .before in
-    let table = k .before .before .before .args .table .now in
+    let table = k .before .before .before .before .args .table .now in
     facesApart (rowsIn table (suc (k .loop .row))) ≡ c .row-apart .result && facesApart (rowsIn table (k .loop .row)))
 more c =
     let k = c .before .before .before in
-    let a = k .before .before .before .args in
-    row-checked (a .table .now) (k .before .keys-of .result) (a .n) (k .before .keys-of .ensures)
-    (λ j. omega (arith, k .before .before .shared-slice-known .given j)) (k .loop .row) (omega arith)
+    let a = k .before .before .before .before .args in
+    row-checked (a .table .now) _ (a .n) (k .before .store-all .ensures .1)
+    (λ j. omega (arith, k .before .before .before .shared-slice-known .given j)) (k .loop .row) (omega arith)
     (c .row-apart .result) (c .row-apart .ensures)
 
-keys-of-requires : tie.Need-keys-of-requires Inv-loop μ-loop
-keys-of-requires c κs = search needs
+store-all-requires : tie.Need-store-all-requires Inv-loop μ-loop
+store-all-requires c κs = search needs
 
 loop-holds : tie.Need-loop-holds Inv-loop μ-loop
 unfolding facesApart rowsIn numbersFrom
@@ -46,7 +46,7 @@ row-apart-requires c κs = (search needs, omega arith)
 returns : tie.Need-returns Inv-loop μ-loop
 returns c =
     let k = c .before .before .before .before in
-    let a = k .before .before .before .args in
+    let a = k .before .before .before .before .args in
     let i = k .loop .row in
     let no = not-true (c .before .row-apart .result) (c .if1 .taken) in
     sym (apart-longer (a .table .now) (suc i) (a .n) (omega arith) (more (c .before)
@@ -61,7 +61,7 @@ loop-less c = omega arith
 loop-again : tie.Need-loop-again Inv-loop μ-loop
 loop-again c =
     let k = c .before .before .before .before in
-    let a = k .before .before .before .args in
+    let a = k .before .before .before .before .args in
     let i = k .loop .row in (
       omega arith,
       k .loop .inv .1,
@@ -71,7 +71,7 @@ loop-again c =
 returns-2 : tie.Need-returns-2 Inv-loop μ-loop
 returns-2 c =
     let l = c .before .loop in
-    let a = c .before .before .before .before .args in
+    let a = c .before .before .before .before .before .args in
     let e : l .row ≡ a .n = omega arith in
     sym (rw e at (l .inv .2))
 
@@ -81,7 +81,7 @@ all-apart-spec =
     (tie.spec
     Inv-loop
     μ-loop
-    keys-of-requires
+    store-all-requires
     loop-holds
     row-apart-requires
     returns

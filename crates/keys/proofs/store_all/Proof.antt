@@ -1,4 +1,4 @@
--- The invariant of `keys_of`: the keys of the first i rows are stored.
+-- The invariant of `store_all`: the keys of the first i rows are stored.
 use Prim.Native.Nat.{_≤_, _-_, _*_}
 use mathlib.Core.Path.{_≡_, refl, sym, ap, _∙_}
 use mathlib.Core.List.{flatMap}
@@ -11,14 +11,14 @@ use Rattle.lists.proofs.Images.{flatMap-snoc}
 use Rattle.rows.specs.Rows.{rowIn, rowsIn}
 use Rattle.rows.proofs.RowsOfTables.{rows-more}
 use Rattle.keys.specs.Steps.{rowFaces, mostKeys, rowKeys, tableKeys}
-use Rattle.keys.proofs.keys_of.Statement.{statement}
-use Rattle.keys.proofs.keys_of.Tie as tie
+use Rattle.keys.proofs.store_all.Statement.{statement}
+use Rattle.keys.proofs.store_all.Tie as tie
 
 abbrev Inv-loop : tie.InvT-loop
-Inv-loop table n keys₀ i₀ keys i = (i ≤ n) × (length keys ≡ mostKeys) × (take (rowFaces * i) keys ≡ tableKeys (rowsIn table i))
+Inv-loop keys₀ table n i₀ keys i = (i ≤ n) × (length keys ≡ mostKeys) × (take (rowFaces * i) keys ≡ tableKeys (rowsIn table i))
 
 abbrev μ-loop : tie.MeasureT-loop
-μ-loop table n keys₀ i₀ keys i = n - i
+μ-loop keys₀ table n i₀ keys i = n - i
 
 loop-holds : tie.Need-loop-holds Inv-loop μ-loop
 unfolding flatMap rowsIn numbersFrom
@@ -55,10 +55,10 @@ returns c =
     let l = c .before .loop in
     let a = c .before .before .before .args in
     let e : l .i ≡ a .n = omega arith in
-    rw e at (l .inv .2)
+    (l .inv .1, rw e at (l .inv .2))
 
-pub keys-of-spec : {M : Type 1} → statement M
-keys-of-spec =
+pub store-all-spec : {M : Type 1} → statement M
+store-all-spec =
     tie.close
     (tie.spec
     Inv-loop
