@@ -59,6 +59,8 @@ pub fn fill_cells(
         → SiteRim site (now (coordinates .entry)) rim (take n (now (keys .entry)))
         → m ≡ sizeOf site
         → Done site (now (kinds .exit)) (now (nums .exit)) (now (dens .exit)) (now (apexes .exit))) ⌝ }
+    ensures { λ _. ⌜ (length (now (kinds .exit)) ≡ cells) × (length (now (nums .exit)) ≡ cells) × (length (now (dens .exit)) ≡ cells)
+        × (length (now (apexes .exit)) ≡ cells) ⌝ }
 {
     let mut used = [false; CELLS];
     let mut i: usize = 1;

@@ -1,35 +1,13 @@
 -- What only contracts of inner functions and proofs say: what the table of pieces keeps in its cells.
 use Prim.Native.Nat.{ℕ, _+_, _≤_}
-use mathlib.Core.Bool.{Bool, cond}
 use mathlib.Core.Option.{Option}
 use mathlib.Core.Path.{_≡_}
 use lib.Dec.{T}
-use lib.ListN.{length, set}
 use Rattle.quality.specs.declared.Quality.{Quality}
 use Rattle.ring.specs.Ring.{Site, m, ringWith}
-use Rattle.filling.specs.declared.Filling.{Filling}
 use Rattle.triangulation.specs.Best.{tableBest, tableApex, sameBest}
 use Rattle.cells.specs.Steps.{bestIn, apexIn}
 use Rattle.pieces.specs.declared.Pieces.{Pieces}
-
--- ---- the mark of a chain that is barred
-
--- the table with the mark in a cell
-abbrev pub unsetAt : Filling → ℕ → Filling
-unsetAt filling at =
-    record {
-      kinds = set (filling .kinds) at 0;
-      nums = set (filling .nums) at 0;
-      dens = set (filling .dens) at 0;
-      apexes = set (filling .apexes) at 0;
-      used = filling .used;
-    }
-
--- the same only where a kept row bars the chain
-abbrev pub barIf : Bool → Filling → ℕ → Filling
-barIf bars filling at = cond bars (unsetAt filling at) filling
-
--- ---- the table kept with the ring
 
 -- the best worst that the table keeps for piece (i,j), or the mark
 abbrev pub keptBest : Pieces → ℕ → ℕ → Option Quality

@@ -166,8 +166,11 @@ loop-again c =
 returns : tie.Need-returns Inv-loop μ-loop
 returns c =
     let l = c .before in
-    λ site site-rim size.
-    upto-end (l .loop .inv .4 site site-rim size) (rw (← size) (omega (arith, l .before .cell-at .ensures .0, c .loop-test .left)))
+    let whole = l .loop .inv .3 in (
+      λ site site-rim size.
+          upto-end (l .loop .inv .4 site site-rim size) (rw (← size) (omega (arith, l .before .cell-at .ensures .0, c .loop-test .left))),
+      (whole .arrays .all-kinds, whole .arrays .all-nums, whole .arrays .all-dens, whole .all-apexes),
+    )
 
 pub fill-cells-spec : {M : Type 1} → statement M
 fill-cells-spec =
