@@ -92,15 +92,11 @@ fill-requires c κs =
 cell-at-requires : tie.Need-cell-at-requires
 cell-at-requires c κs =
     let k = c .before .before .before .before .before in
-    let (long, short) = ring-length (blockOf k) (eOf k) (fOf k) _ (k .before .before .ring-at .ensures) (k .if1 .left) _ (c .fill .ensures .0) in
-    (omega arith, omega arith, omega arith, short)
+    let (long, short) = ring-length (blockOf k) (eOf k) (fOf k) _ (k .before .before .ring-at .ensures) (k .if1 .left) _ (c .fill .ensures) in
+    (omega arith, omega arith, omega arith)
 
 element-copy-out-result : tie.Need-element-copy-out-result
-element-copy-out-result c =
-    let filled = c .before in
-    let k = filled .before .before .before .before .before in
-    let (long, short) = ring-length (blockOf k) (eOf k) (fOf k) _ (k .before .before .ring-at .ensures) (k .if1 .left) _ (filled .fill .ensures .0) in
-    omega (arith, c .cell-at .ensures)
+element-copy-out-result c = search needs
 
 cast-result : tie.Need-cast-result
 cast-result c = search needs
@@ -109,8 +105,8 @@ returns-2 : tie.Need-returns-2
 returns-2 c =
     let filled = c .before .before in
     let k = filled .before .before .before .before .before in
-    ap (λ at. getD (filled .fill .result .apexes) at 0) (c .before .cell-at .ensures)
-    ∙ top (blockOf k) (eOf k) (fOf k) _ (k .before .before .ring-at .ensures) (k .if1 .left) _ (filled .fill .ensures .0)
+    ap (λ at. getD (filled .fill .result .apexes) at 0) (c .before .cell-at .ensures .0)
+    ∙ top (blockOf k) (eOf k) (fOf k) _ (k .before .before .ring-at .ensures) (k .if1 .left) _ (filled .fill .ensures)
 
 pub apex-at-spec : {M : Type 1} → statement M
 apex-at-spec =
