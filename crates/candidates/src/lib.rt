@@ -14,7 +14,6 @@ use kept_faces::Rim;
 use kept_faces::uses_either;
 use keys::MOST_KEYS;
 use quality::Quality;
-use ring::MAX_RING;
 
 // The two rows of a triangle x, y, z: (a,x,y,z) and (x,y,z,b).
 pub struct Bipyramid {
