@@ -24,6 +24,7 @@ unfolding endedBy
 one-more zero = refl
 one-more (suc j) = omega (arith, ended (suc j), ended j)
 
+-- the e - 2 that end at e come on top of all that end before
 past : (j e : ℕ) → 1 ≤ j → j < e → endedBy j + (e - 2) ≤ endedBy e
 past j zero s h = absurd (omega arith)
 past j (suc zero) s h = absurd (omega arith)
@@ -35,6 +36,7 @@ past j (suc (suc e)) s h = go (decLt j (suc e)) (past j (suc e) s)
 
 -- ---- the place of a piece
 
+-- what is taken off is there
 pub cell-room : (i j : ℕ) → i + 2 ≤ j → i ≤ endedBy j
 cell-room i j h = omega (arith, past (j - 1) j (omega arith) (omega arith))
 
@@ -78,6 +80,7 @@ cell-apart i j l e s h t k q = go (decLt j e) (decLt e j)
 
 -- ---- one place more
 
+-- the pieces up to the place of the whole are the ring's
 pub cell-inside : (i j m : ℕ) → 1 ≤ i → i + 2 ≤ j → 3 ≤ m → cellAt i j ≤ cellAt 1 m → j ≤ m
 cell-inside i j m s h k c = go (decLt m j)
   where
@@ -85,9 +88,11 @@ cell-inside i j m s h k c = go (decLt m j)
     go (yes b) = absurd (omega (arith, cell-order 1 m i j (omega arith) k h (omega arith) (λ same. omega arith)))
     go (no b) = omega arith
 
+-- behind (i,j) stands (i - 1,j),
 pub cell-next : (i j : ℕ) → 1 < i → i + 2 ≤ j → cellAt (i - 1) j ≡ cellAt i j + 1
 cell-next i j s h = omega (arith, counted i j h, counted (i - 1) j (omega arith))
 
+-- and behind (1,j) the shortest that ends at j + 1
 pub cell-turn : (j : ℕ) → 3 ≤ j → cellAt (j - 1) (j + 1) ≡ cellAt 1 j + 1
 cell-turn zero h = absurd (omega arith)
 cell-turn (suc j) h =
