@@ -178,7 +178,7 @@ finish-requires c κs =
     let k = three .before .before in
     let p = best .before .before .smaller .ensures in
     let q = best .before .larger .ensures in (
-      c .before .before .out2 .given .1 ∙ c .before .before .before .before .before .before .before .out .given ∙ room k,
+      omega (arith, c .before .before .out2 .given .1, c .before .before .before .before .before .before .before .out .given, room k),
       room-for (blockOf k) (outOf k) (eOf k) (fOf k) (opens k) (room k) (foundAt k) (is-found k) (is-done k) (three .if1 .left) _ _ p q _
           (best .best-way .ensures) _ (worst .enum-told3 .given .1) _ (carried .carry-out .ensures .0),
     )

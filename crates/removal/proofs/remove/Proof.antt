@@ -116,7 +116,7 @@ finish-requires c κs =
     let args = k .before .before .before .before .before .before .args in
     let given = replaceable (args .block .now) (args .out .now) (args .e) (args .f) (right k .0) (right k .1) _ (tried .attempt .ensures)
     (done .enum-told2 .given .1) in
-    (c .before .before .out2 .given .1 ∙ c .before .before .before .before .before .before .before .out .given ∙ right k .1, omega (arith, replaced .replace .ensures .number, few-afterwards (args .block .now) (args .e) (args .f) given))
+    (omega (arith, c .before .before .out2 .given .1, c .before .before .before .before .before .before .before .out .given, right k .1), omega (arith, replaced .replace .ensures .number, few-afterwards (args .block .now) (args .e) (args .f) given))
 
 same-length-3 : tie.Need-same-length-3
 same-length-3 c = search needs

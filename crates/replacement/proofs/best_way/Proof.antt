@@ -22,7 +22,7 @@ returns c =
     let start = filled .before .before .before in
     let args = start .args in
     let its = siteIn (args .coordinates .now) (args .count) (args .table .now) (args .n) (args .a) (args .b) in
-    way-read {its = its} (start .pre .ready .long) (filled .fill .ensures .0) _ _ (place .cell-at .ensures) (read .best-at .ensures)
+    way-read {its = its} (start .pre .ready .long) (filled .fill .ensures) _ _ (place .cell-at .ensures .0) (read .best-at .ensures)
 
 pub best-way-spec : {M : Type 1} → statement M
 best-way-spec = tie.close (tie.spec fill-requires cell-at-requires best-at-requires returns)
