@@ -35,7 +35,7 @@
  * Inputs: every length and every number has an answer; nothing has to be looked at before a call. No input is written.
  * Threads: a call keeps nothing between calls and touches only its arguments, so calls may run in any number of threads
  *     at once.
- * Memory: no heap; less than 16 KiB of stack (docs/BENCHMARK.md has what was measured).
+ * Memory: no heap; of stack the bytes that SUMPNEWT_STACK_ with the call's name says.
  * Time: bounded for every input; docs/BENCHMARK.md has the times.
  *
  * WHAT THE CALLER ANSWERS FOR
@@ -84,6 +84,19 @@ extern "C" {
 #define SUMPNEWT_POINT_BYTES 3
 #define SUMPNEWT_ROWS_AT 208
 #define SUMPNEWT_ROW_BYTES 5
+
+/*
+ * The bytes of stack that a call needs below its caller's frame, whatever its input: measured on x86-64 and on Arm, the
+ * larger of both. memcpy and memset are counted as taking none of their own.
+ */
+#define SUMPNEWT_STACK_OPEN 3096
+#define SUMPNEWT_STACK_SEAL 3112
+#define SUMPNEWT_STACK_SUMMARY 3304
+#define SUMPNEWT_STACK_SHOWN 3176
+#define SUMPNEWT_STACK_REMOVE 11056
+#define SUMPNEWT_STACK_PAGE 11592
+#define SUMPNEWT_STACK_FLIP_32 9624
+#define SUMPNEWT_STACK_FLIP_23 3496
 
 /* The answers, in the order in which they are tested. */
 enum {

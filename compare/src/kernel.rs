@@ -2,7 +2,7 @@
 
 use crate::model::{Call, Outcome};
 
-mod c {
+pub(crate) mod c {
     extern "C" {
         pub fn sumpnewt_open(block: *const u8, n: usize) -> u32;
         pub fn sumpnewt_seal(fields: *const u8, n: usize, out: *mut u8, out_n: usize) -> u32;

@@ -15,7 +15,7 @@ mod held {
     use compare::gen::{case, cases, Random};
     use compare::held::Held;
     use compare::model::block::with_sums;
-    use compare::model::call::{PAGE_NUMBERS, SHOWN_NUMBERS, SUMMARY_NUMBERS};
+    use compare::model::call::calls_on;
     use compare::model::limits::{BLOCK_BYTES, FIELD_BYTES};
     use compare::model::{open, Call, Outcome};
 
@@ -25,50 +25,6 @@ mod held {
     const CALLS: u64 = 8;
     /// More than a block and its output together.
     const LENGTHS: usize = 1_100;
-
-    /// Every call on a block with these numbers, each with an output of its own length.
-    fn calls_on(block: &[u8], [u, v, w]: [usize; 3]) -> [Call; CALLS as usize] {
-        let block = block.to_vec();
-        let out = UNTOUCHED.to_vec();
-        let ends = [u, v];
-        [
-            Call::Open {
-                block: block.clone(),
-            },
-            Call::Seal {
-                fields: block[..block.len().min(FIELD_BYTES)].to_vec(),
-                out: out.clone(),
-            },
-            Call::Summary {
-                block: block.clone(),
-                out: vec![u64::MAX; SUMMARY_NUMBERS],
-            },
-            Call::Shown {
-                block: block.clone(),
-                out: vec![-1.5; SHOWN_NUMBERS],
-            },
-            Call::Remove {
-                block: block.clone(),
-                ends,
-                out: out.clone(),
-            },
-            Call::Page {
-                block: block.clone(),
-                ends,
-                row: vec![-1.5; PAGE_NUMBERS],
-            },
-            Call::Flip32 {
-                block: block.clone(),
-                ends,
-                out: out.clone(),
-            },
-            Call::Flip23 {
-                block,
-                face: [u, v, w],
-                out,
-            },
-        ]
-    }
 
     /// Every byte of some bytes with every other value.
     fn changes(bytes: &[u8]) -> impl Iterator<Item = Vec<u8>> + '_ {

@@ -114,6 +114,23 @@ fn asked(random: &mut Random, scene: Scene, meant: Option<u32>) -> (Call, Option
     }
 }
 
+/// A block of `rows` rows with a flat chain of m round the returned ends; `blocked` leaves it no triangulation. All other
+/// rows stand apart from the chain.
+pub fn chain_in_table(
+    random: &mut Random,
+    m: usize,
+    rows: usize,
+    blocked: bool,
+) -> (Vec<u8>, [usize; 2]) {
+    let mut scene = bare_chain(random, m);
+    if blocked {
+        add(&mut scene, random, m, Obstacles::Ears);
+    }
+    fill(&mut scene, random, rows, Some(m));
+    let finished = scene.finish(random, Naming::Any, 0);
+    (finished.block(), finished.ends(random))
+}
+
 /// A flat chain of m points whose rows stand upright more often than not.
 fn bare_chain(random: &mut Random, m: usize) -> Scene {
     let plate = random.pick(&PLATES);

@@ -102,7 +102,7 @@ fn one_apex(random: &mut Random) -> (Call, Option<u32>) {
 }
 
 /// 60 rows get 14, also where the mesh rule would break; 59 pass.
-fn room(random: &mut Random) -> (Call, Option<u32>) {
+pub fn room(random: &mut Random) -> (Call, Option<u32>) {
     let mut scene = two_rows(random);
     let breaks = random.percent(40);
     if breaks {

@@ -3,6 +3,7 @@
 mod bad_blocks;
 mod chains;
 mod close;
+mod deep;
 mod edges;
 mod faces;
 mod lattice;
@@ -17,6 +18,7 @@ mod summaries;
 mod templates;
 
 use crate::model::Call;
+pub use deep::{deep_calls, deep_sites};
 pub use random::Random;
 pub use rings::ring_in_table;
 

@@ -3,7 +3,7 @@
 use super::answer;
 use super::block::{open, seal};
 use super::flips::{flip_23, flip_32};
-use super::limits::{BLOCK_BYTES, MAX_ROWS};
+use super::limits::{BLOCK_BYTES, FIELD_BYTES, MAX_ROWS};
 use super::measure::PageRow;
 use super::printout::printout;
 use super::removal::remove;
@@ -71,6 +71,51 @@ pub enum Call {
     Printout {
         input: Vec<u8>,
     },
+}
+
+/// Every call but the printout, in the header's order: on a block, or as much of one as there is, with these numbers, the
+/// first two of them the ends of an edge. Each has an output of its own length.
+pub fn calls_on(block: &[u8], [u, v, w]: [usize; 3]) -> [Call; 8] {
+    let block = block.to_vec();
+    let out = vec![0xA5; BLOCK_BYTES];
+    let ends = [u, v];
+    [
+        Call::Open {
+            block: block.clone(),
+        },
+        Call::Seal {
+            fields: block[..block.len().min(FIELD_BYTES)].to_vec(),
+            out: out.clone(),
+        },
+        Call::Summary {
+            block: block.clone(),
+            out: vec![u64::MAX; SUMMARY_NUMBERS],
+        },
+        Call::Shown {
+            block: block.clone(),
+            out: vec![-1.5; SHOWN_NUMBERS],
+        },
+        Call::Remove {
+            block: block.clone(),
+            ends,
+            out: out.clone(),
+        },
+        Call::Page {
+            block: block.clone(),
+            ends,
+            row: vec![-1.5; PAGE_NUMBERS],
+        },
+        Call::Flip32 {
+            block: block.clone(),
+            ends,
+            out: out.clone(),
+        },
+        Call::Flip23 {
+            block,
+            face: [u, v, w],
+            out,
+        },
+    ]
 }
 
 /// What a call leaves behind: its answer and every element of its output.

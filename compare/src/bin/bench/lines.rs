@@ -1,14 +1,12 @@
 //! What is measured, line by line.
 
 use crate::inputs::{edges, Edge, Fraction, Inputs, SEED};
+use crate::probes;
 use crate::timing::Line;
-use crate::{probes, stack};
-use compare::kernel;
 use compare::model::answer;
 use compare::model::call::SUMMARY_NUMBERS;
-use compare::model::limits::{BLOCK_BYTES, LONGEST_RING, MAX_ROWS};
-use compare::quick;
-use std::hint::black_box;
+use compare::model::limits::{BLOCK_BYTES, MAX_ROWS};
+use compare::{kernel, quick, stack};
 use std::process::{Command, ExitCode};
 
 /// The most that kernel / Rust may be.
@@ -177,20 +175,38 @@ fn removal_lines() -> Vec<Line> {
     lines
 }
 
-/// The deepest of the accepted removals from the longest rings.
-fn print_stack() {
-    let edges = edges(LONGEST_RING, most_rows(LONGEST_RING), answer::DONE);
-    let deepest = |remove: fn(&[u8], [usize; 2], &mut [u8]) -> u32| {
-        let edges = edges.clone();
-        let mut out = vec![0; BLOCK_BYTES];
-        stack::peak(move || {
-            for (block, ends) in &edges {
-                black_box(remove(block, *ends, &mut out));
-            }
-        })
+/// Rust's removal as the header declares one.
+extern "C" fn rust_remove(
+    block: *const u8,
+    n: usize,
+    a: usize,
+    b: usize,
+    out: *mut u8,
+    out_n: usize,
+) -> u32 {
+    // SAFETY: only `deepest_of` calls it, with slices.
+    let (block, out) = unsafe {
+        (
+            std::slice::from_raw_parts(block, n),
+            std::slice::from_raw_parts_mut(out, out_n),
+        )
     };
-    let (kernel, rust) = (deepest(kernel::remove), deepest(rust_answer));
-    println!("peak stack of remove: {kernel} bytes, Rust {rust}");
+    rust_answer(block, [a, b], out)
+}
+
+/// The deepest stack of each call.
+fn print_stack() {
+    let rust = stack::deepest_of(rust_remove);
+    println!("| Bytes of stack | Kernel | Rust |");
+    println!("|----------------|-------:|-----:|");
+    for (name, kernel) in stack::deepest() {
+        let name = name.to_lowercase();
+        let rust = match name.as_str() {
+            "remove" => rust.to_string(),
+            _ => "-".to_string(),
+        };
+        println!("| {name:<14} | {kernel:>6} | {rust:>4} |");
+    }
 }
 
 /// The bytes of the archive, and of the code in it by `size`, where there is such a command.

@@ -8,8 +8,6 @@ mod lines;
 #[cfg(all(kernel, probes))]
 mod probes;
 #[cfg(all(kernel, probes))]
-mod stack;
-#[cfg(all(kernel, probes))]
 mod timing;
 
 use std::process::ExitCode;
