@@ -1,1 +1,2 @@
 pub mod RowsAfterwards
+pub mod RemovalAnswers

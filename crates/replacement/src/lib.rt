@@ -80,13 +80,6 @@ pub fn carry_out(
     let kept = output::keep_others(table, n, a, b, b, rows);
     let region = region_of(table, n, a, b);
     let v = ring.v;
-    expansion::expand(
-        rows,
-        kept,
-        apexes,
-        Rim { a, b, v },
-        region,
-        1,
-        ring.m as usize,
-    )
+    let m = ring.m as usize;
+    expansion::expand(rows, kept, apexes, Rim { a, b, v }, region, 1, m)
 }

@@ -1,5 +1,5 @@
 -- The rows that stay and the rows of the apexes are the table afterwards.
-use mathlib.Core.Path.{_≡_}
+use native.Mathlib.Omega.{arith}
 use borrow.Author.Needs.{needs}
 use Rattle.replacement.proofs.CarriedOut.{keep-room, expand-ready, expand-room, carried-out}
 use Rattle.replacement.proofs.carry_out.Statement.{statement}
@@ -9,13 +9,15 @@ keep-others-requires : tie.Need-keep-others-requires
 keep-others-requires c κs =
     let start = c .before .before .before .before in
     let args = start .args in
-    keep-room (args .coordinates .now) (args .count) (args .table .now) (args .n) (args .a) (args .b) (start .pre .0) (start .pre .1)
+    let (held, room) = keep-room (args .coordinates .now) (args .count) (args .table .now) (args .n) (args .a) (args .b) (start .pre .0)
+    (start .pre .1) in
+    (omega (arith, held), omega (arith, room))
 
 region-of-requires : tie.Need-region-of-requires
 region-of-requires c κs = search needs
 
-cast-expand : tie.Need-cast-expand
-cast-expand c = search needs
+cast-m : tie.Need-cast-m
+cast-m c = search needs
 
 expand-requires : tie.Need-expand-requires
 expand-requires c κs =
@@ -47,7 +49,7 @@ carry-out-spec =
     (tie.spec
     keep-others-requires
     region-of-requires
-    cast-expand
+    cast-m
     expand-requires
     same-length
     returns)

@@ -7,9 +7,9 @@ use Rattle.block.specs.Opening.{openAnswer}
 use Rattle.calls.specs.declared.Removed.{Removed}
 use Rattle.calls.proofs.HandedOn.{handed-done}
 use Rattle.cells.specs.Steps.{cells}
-use Rattle.removal.proofs.RemovalWritten.{refusal-gives, front-number, tried-number, replaceable, done-gives, blank, blank-size, blank-opened}
-use Rattle.removal.proofs.page.Statement.{statement}
-use Rattle.removal.proofs.page.Tie as tie
+use Rattle.outcome.proofs.RemovalAnswers.{refusal-gives, front-number, tried-number, replaceable, done-gives, blank, blank-size, blank-opened}
+use Rattle.outcome.proofs.page.Statement.{statement}
+use Rattle.outcome.proofs.page.Tie as tie
 
 -- the block opens
 opens : (k : tie.After-enum-told) → openAnswer (k .before .before .before .before .args .block .now) ≡ 0
