@@ -89,14 +89,14 @@ extern "C" {
  * The bytes of stack that a call needs below its caller's frame, whatever its input: measured on x86-64 and on Arm, the
  * larger of both. memcpy and memset are counted as taking none of their own.
  */
-#define SUMPNEWT_STACK_OPEN 3096
-#define SUMPNEWT_STACK_SEAL 3112
-#define SUMPNEWT_STACK_SUMMARY 3304
-#define SUMPNEWT_STACK_SHOWN 3176
-#define SUMPNEWT_STACK_REMOVE 11056
-#define SUMPNEWT_STACK_PAGE 11592
-#define SUMPNEWT_STACK_FLIP_32 9624
-#define SUMPNEWT_STACK_FLIP_23 3496
+#define SUMPNEWT_STACK_OPEN 1144
+#define SUMPNEWT_STACK_SEAL 1160
+#define SUMPNEWT_STACK_SUMMARY 1352
+#define SUMPNEWT_STACK_SHOWN 1224
+#define SUMPNEWT_STACK_REMOVE 3480
+#define SUMPNEWT_STACK_PAGE 3784
+#define SUMPNEWT_STACK_FLIP_32 3176
+#define SUMPNEWT_STACK_FLIP_23 1544
 
 /* The answers, in the order in which they are tested. */
 enum {
