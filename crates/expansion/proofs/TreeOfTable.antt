@@ -6,10 +6,10 @@ use mathlib.Core.List.{List}
 use mathlib.Core.Path.{_≡_, refl, sym, ap, _∙_}
 use native.Mathlib.Decide.{decLt}
 use native.Mathlib.Omega.{arith}
-use lib.ListN.{getD, replicate, List·getD-append}
+use lib.ListN.{getD}
 use Rattle.quality.specs.declared.Quality.{Quality}
-use Rattle.ring.specs.Ring.{Site, m, maxRing}
-use Rattle.triangulation.specs.Triangulation.{Tri, side, cut, span, v, regionOf}
+use Rattle.ring.specs.Ring.{Site, m}
+use Rattle.triangulation.specs.Triangulation.{Tri, side, cut, span}
 use Rattle.triangulation.specs.Admissible.{barred}
 use Rattle.triangulation.specs.Best.{apex, tableApex, barredPiece, chosenWithin, chosenOf, chosen}
 use Rattle.triangulation.proofs.Barred.{open-piece}
@@ -20,7 +20,7 @@ use Rattle.pieces.specs.declared.Pieces.{Pieces}
 use Rattle.pieces.specs.Steps.{KeepsTable, keptBest}
 use Rattle.filling.proofs.CellFilled.{apex-over}
 use Rattle.pieces.proofs.TableOptimal.{kept-best}
-use Rattle.expansion.specs.Steps.{Between, SiteRows, treeWithin, treeIn}
+use Rattle.expansion.specs.Steps.{Between, treeWithin, treeIn}
 use Rattle.expansion.proofs.TreeWritten.{branch, tree-near, tree-far}
 
 -- ---- apexes that are the site's own
@@ -97,20 +97,8 @@ module _ {site : Site} {table : Pieces} (keeps : KeepsTable site table) where
       own-tree site (table .apexes) 1 (m site) (λ l e a b c.
       keeps .apexes l e a b c ∙ ap (λ b. cond b none (apex site l e)) (open-piece site free l e))
 
-  -- which spans the ring, if there is a best worst;
+  -- and spans the ring, if there is a best worst
   pub kept-spans : 3 ≤ m site → {q : Quality} → keptBest table 1 (m site) ≡ some q → span (chosen site) ≡ m site - 1
   kept-spans long e =
       let best = kept-best keeps 1 (m site) (omega arith) (omega arith) (omega arith) e .1 in
       chosen-optimal site 1 (m site) (best .by) (omega arith) (best .spans) (best .admissible) .spans
-
-  -- and its points are the site's
-  pub kept-rows : SiteRows site (record { a = site .a; b = site .b; v = table .ring }) (regionOf (site .removed)) 1 (m site)
-  kept-rows = record { a = refl; b = refl; v = point; own-region = refl }
-    where
-      point : (l : ℕ) → 1 ≤ l → l ≤ m site → getD (table .ring) (l - 1) 0 ≡ v site l
-      point zero s h = absurd (omega arith)
-      point (suc l) s h =
-          let back : suc l - 1 ≡ l = omega arith in
-          ap (λ k. getD (table .ring) k 0) back
-          ∙ ap (λ ring. getD ring l 0) (keeps .ring)
-          ∙ List·getD-append (site .ring) (replicate (maxRing - m site) 0) 0 l (omega arith)

@@ -1,7 +1,7 @@
 -- `fill_cells` has filled the pieces with a place before `at`, and (i,j) is the piece whose place `at` is.
 use Prim.Native.Nat.{ℕ, _+_, _-_, _≤_}
 use mathlib.Core.Logic.{⊎-elim}
-use mathlib.Core.Path.{_≡_, refl, ap, _∙_}
+use mathlib.Core.Path.{_≡_, refl, _∙_}
 use native.Mathlib.Omega.{arith}
 use lib.ListN.{take}
 use borrow.Author.Needs.{needs}
@@ -152,7 +152,7 @@ loop-again c =
     (c .if1 .came) in (
       next .0,
       next .1,
-      next .2 ∙ ap (λ n. n + 1) here,
+      omega (arith, next .2, here),
       whole-more (l .at) (cellOf (choice .choose .result)) (closing .result) whole (stored .store .ensures),
       λ site site-rim size.
           let end : j ≤ sizeOf site = omega (arith, size, inside t) in
