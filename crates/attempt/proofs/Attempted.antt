@@ -21,7 +21,8 @@ use Rattle.verdict.specs.declared.Plan.{Plan}
 use Rattle.verdict.specs.Steps.{planAnswer, Plans}
 use Rattle.verdict.proofs.VerdictAnswers.{plan-room, plan-way}
 use Rattle.attempt.specs.declared.Tried.{Tried}
-use Rattle.attempt.specs.Steps.{attemptAnswer, edgeSite, Attempts}
+use Rattle.replacement.specs.Steps.{edgeSite}
+use Rattle.attempt.specs.Steps.{attemptAnswer, Attempts}
 
 module _ (block : List ℕ) (e f : ℕ) (opens : openAnswer block ≡ 0) (found : Found) (i : found ≡ edgeFound orChains block e f) where
   abbrev site : Site

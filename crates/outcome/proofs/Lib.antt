@@ -1,2 +1,1 @@
 pub mod RowsAfterwards
-pub mod RemovalAnswers

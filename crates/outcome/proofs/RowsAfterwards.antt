@@ -28,8 +28,7 @@ use Rattle.output.specs.Steps.{tableBytes, tableWith}
 use Rattle.output.proofs.RowsThenZeros.{table-size, table-read}
 use Rattle.calls.specs.Removing.{patchAfter}
 use Rattle.calls.proofs.BestDecides.{chosen-keeps, chosen-rows}
-use Rattle.replacement.specs.Steps.{Carriable}
-use Rattle.attempt.specs.Steps.{edgeSite, Replaceable}
+use Rattle.replacement.specs.Steps.{Carriable, edgeSite, Replaceable}
 use Rattle.outcome.specs.declared.After.{After}
 use Rattle.outcome.specs.Steps.{rowsAfterwards, pageAfterwards, Replaces}
 

@@ -1,17 +1,11 @@
-// The removal of an edge that is decided, carried out: the rows afterwards, written where they belong, and the page row; and a call for the
-// page row alone.
+// The removal of an edge that is decided, carried out: the rows afterwards, written where they belong, and the page row.
 ghost use mathlib.Core.Path.{_≡_};
 ghost use lib.ListN.{length, replicate};
-ghost use Rattle.layout.specs.Layout.{blockBytes};
 ghost use Rattle.block.specs.Opening.{openAnswer};
 ghost use Rattle.cells.specs.Steps.{cells};
 ghost use Rattle.output.specs.Steps.{tableBytes};
-ghost use Rattle.calls.specs.Removing.{removeGives};
-ghost use Rattle.attempt.specs.Steps.{Replaceable};
+ghost use Rattle.replacement.specs.Steps.{Replaceable};
 ghost use Rattle.outcome.specs.Steps.{Replaces};
-use answers::Answer;
-use attempt::attempt;
-use calls::Removal;
 use cells::CELLS;
 use display::page_row;
 use edge::larger;
@@ -19,7 +13,6 @@ use edge::smaller;
 use layout::BODY_BYTES;
 use layout::POINTS_AT;
 use layout::ROWS_AT;
-use layout::TABLE_BYTES;
 use page::PageRow;
 use replacement::carry_out;
 use ring::Ring;
@@ -66,25 +59,4 @@ pub fn replace(
         n: end,
         page: page_row(coordinates, count, table, n, rows, end),
     }
-}
-
-// The page row of the removal of the edge between e and f, or its refusal; nothing is written.
-pub fn page(block: &[u8], e: usize, f: usize) -> Removal
-    ensures { λ r. ⌜ r ≡ removeGives (now (block .entry)) (replicate blockBytes 0) e f .removal ⌝ }
-{
-    let opened = block::opening(block);
-    if let Answer::Refused(number) = opened {
-        return Removal::Refused(number);
-    }
-    let tried = attempt(block, e, f);
-    let answer = tried.answer;
-    let ring = tried.ring;
-    let apexes = tried.apexes;
-    if let Answer::Refused(number) = answer {
-        return Removal::Refused(number);
-    }
-    let mut rows = [0u8; TABLE_BYTES];
-    let after = replace(block, e, f, tried.closed, ring, &apexes, &mut rows);
-    let page = after.page;
-    Removal::Done(page)
 }

@@ -17,7 +17,7 @@ use face_flip::flip_face;
 use layout::BODY_BYTES;
 use layout::POINTS_AT;
 use layout::ROWS_AT;
-pub use outcome::page;
+pub use removal::page;
 pub use removal::remove;
 
 // The summary of a block, or a refusal of opening.

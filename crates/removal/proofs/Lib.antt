@@ -1,1 +1,2 @@
+pub mod RemovalAnswers
 pub mod RemovalWritten

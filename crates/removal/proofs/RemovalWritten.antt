@@ -15,7 +15,7 @@ use Rattle.attempt.specs.Steps.{Attempts}
 use Rattle.outcome.specs.declared.After.{After}
 use Rattle.outcome.specs.Steps.{rowsAfterwards, Replaces}
 use Rattle.outcome.proofs.RowsAfterwards.{few-afterwards}
-use Rattle.outcome.proofs.RemovalAnswers.{done-answer, replaceable}
+use Rattle.removal.proofs.RemovalAnswers.{done-answer, replaceable}
 
 module _ (block out : List ℕ) (e f : ℕ) (opens : openAnswer block ≡ 0) (size : length out ≡ blockBytes) (tried : Tried)
     (attempts : Attempts block e f tried) (h : tried .answer ≡ Done) (rows : List ℕ) (after : After) (replaces : Replaces block e f rows after) where

@@ -1,7 +1,9 @@
-// The removal of an edge: the lengths and the opening, the attempt, and the block afterwards.
+// The removal of an edge: the lengths and the opening, the attempt, and the block afterwards; and its page row alone.
 ghost use mathlib.Core.Path.{_≡_};
+ghost use lib.ListN.{replicate};
+ghost use Rattle.layout.specs.Layout.{blockBytes};
 ghost use Rattle.calls.specs.Removing.{removeGives, removeBytes};
-ghost use Rattle.outcome.specs.Steps.{noRemoved};
+ghost use Rattle.removal.specs.Steps.{noRemoved};
 use answers::Answer;
 use attempt::attempt;
 use calls::Removal;
@@ -9,6 +11,7 @@ use calls::Removed;
 use edge::blocks_answer;
 use layout::BODY_BYTES;
 use layout::ROWS_AT;
+use layout::TABLE_BYTES;
 use outcome::replace;
 use ring::Ring;
 
@@ -54,4 +57,25 @@ pub fn remove(block: &[u8], e: usize, f: usize, out: &mut [u8]) -> Removed
         removal: Removal::Done(page),
         ring,
     }
+}
+
+// The page row of that removal, or its refusal; nothing is written.
+pub fn page(block: &[u8], e: usize, f: usize) -> Removal
+    ensures { λ r. ⌜ r ≡ removeGives (now (block .entry)) (replicate blockBytes 0) e f .removal ⌝ }
+{
+    let opened = block::opening(block);
+    if let Answer::Refused(number) = opened {
+        return Removal::Refused(number);
+    }
+    let tried = attempt(block, e, f);
+    let told = tried.answer;
+    let ring = tried.ring;
+    let apexes = tried.apexes;
+    if let Answer::Refused(number) = told {
+        return Removal::Refused(number);
+    }
+    let mut rows = [0u8; TABLE_BYTES];
+    let after = replace(block, e, f, tried.closed, ring, &apexes, &mut rows);
+    let page = after.page;
+    Removal::Done(page)
 }

@@ -1,18 +1,23 @@
 -- What only contracts of inner functions and proofs say: the apexes of the chosen triangulation, and what carrying it out asks for.
-use Prim.Native.Nat.{ℕ, _-_, _<_, _≤_}
+use Prim.Native.Nat.{ℕ, _-_, _<_, _≤_, min, max}
+use mathlib.Core.Bool.{Bool, false}
 use mathlib.Core.List.{List}
 use mathlib.Core.Path.{_≡_}
 use mathlib.Core.Option.{some}
 use lib.Dec.{T}
 use lib.ListN.{length, replicate}
 use Rattle.quality.specs.declared.Quality.{Quality}
-use Rattle.layout.specs.Layout.{maxRows}
+use Rattle.layout.specs.Layout.{maxRows, pointCount, rowCount, coordinatesOf, tableOf}
+use Rattle.ring.specs.declared.Ring.{Ring}
 use Rattle.ring.specs.Ring.{Site, m}
 use Rattle.triangulation.specs.Triangulation.{span, rowsAfter}
 use Rattle.triangulation.specs.Best.{tableBest, chosen, sameBest}
+use Rattle.triangulation.specs.Steps.{siteIn}
 use Rattle.cells.specs.Steps.{bestOf, cells}
 use Rattle.expansion.specs.Steps.{Between, treeIn}
 use Rattle.output.specs.Steps.{tableBytes}
+use Rattle.calls.specs.Removing.{noWay}
+use Rattle.edge.specs.Steps.{Ringed}
 use Rattle.replacement.specs.declared.Way.{Way}
 
 -- The apexes stand for the chosen triangulation, which spans the ring or chain.
@@ -33,3 +38,17 @@ pub record Carriable (site : Site) (apexes rows : List ℕ) : Type 0 where
   pub whole : length apexes ≡ cells
   pub stand : StandFor site apexes
   pub empty : rows ≡ replicate tableBytes 0
+
+-- ---- an edge of a block
+
+-- the edge between e and f as a site, its ends in order
+abbrev pub edgeSite : List ℕ → ℕ → ℕ → Site
+edgeSite block e f = siteIn (coordinatesOf block) (pointCount block) (tableOf block) (rowCount block) (min e f) (max e f)
+
+-- The edge has its ring or chain, with room and an admissible triangulation, and the apexes stand for the chosen one.
+pub record Replaceable (block : List ℕ) (e f : ℕ) (closed : Bool) (ring : Ring) (apexes : List ℕ) : Type 0 where
+  pub ends : (e < 256) × (f < 256)
+  pub ringed : Ringed (coordinatesOf block) (pointCount block) (tableOf block) (rowCount block) (min e f) (max e f) closed ring
+  pub way : noWay (edgeSite block e f) ≡ false
+  pub room : rowsAfter (edgeSite block e f) ≤ maxRows
+  pub stand : StandFor (edgeSite block e f) apexes

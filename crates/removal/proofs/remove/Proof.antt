@@ -10,7 +10,7 @@ use Rattle.output.proofs.BlockFilledIn.{begun-empty}
 use Rattle.cells.specs.Steps.{cells}
 use Rattle.calls.proofs.CallTests.{opened}
 use Rattle.outcome.proofs.RowsAfterwards.{few-afterwards}
-use Rattle.outcome.proofs.RemovalAnswers.{refusal-gives, refusal-keeps, front-number, tried-number, replaceable, done-gives}
+use Rattle.removal.proofs.RemovalAnswers.{refusal-gives, refusal-keeps, front-number, tried-number, replaceable, done-gives}
 use Rattle.removal.proofs.RemovalWritten.{done-bytes}
 use Rattle.removal.proofs.remove.Statement.{statement}
 use Rattle.removal.proofs.remove.Tie as tie

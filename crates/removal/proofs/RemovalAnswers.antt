@@ -22,9 +22,11 @@ use Rattle.calls.specs.Removing.{blockTests, removalTests, removeAnswer, remove
 use Rattle.calls.proofs.CallTests.{block-left, blocked}
 use Rattle.calls.proofs.HandedOn.{Number, number-handed, handed-done}
 use Rattle.attempt.specs.declared.Tried.{Tried}
-use Rattle.attempt.specs.Steps.{attemptAnswer, Attempts, Replaceable}
+use Rattle.replacement.specs.Steps.{Replaceable}
+use Rattle.attempt.specs.Steps.{attemptAnswer, Attempts}
 use Rattle.outcome.specs.declared.After.{After}
-use Rattle.outcome.specs.Steps.{pageAfterwards, noRemoved, Replaces}
+use Rattle.outcome.specs.Steps.{pageAfterwards, Replaces}
+use Rattle.removal.specs.Steps.{noRemoved}
 
 module _ (block out : List ℕ) (e f : ℕ) where
   abbrev site : Site

@@ -7,9 +7,9 @@ use Rattle.block.specs.Opening.{openAnswer}
 use Rattle.calls.specs.declared.Removed.{Removed}
 use Rattle.calls.proofs.HandedOn.{handed-done}
 use Rattle.cells.specs.Steps.{cells}
-use Rattle.outcome.proofs.RemovalAnswers.{refusal-gives, front-number, tried-number, replaceable, done-gives, blank, blank-size, blank-opened}
-use Rattle.outcome.proofs.page.Statement.{statement}
-use Rattle.outcome.proofs.page.Tie as tie
+use Rattle.removal.proofs.RemovalAnswers.{refusal-gives, front-number, tried-number, replaceable, done-gives, blank, blank-size, blank-opened}
+use Rattle.removal.proofs.page.Statement.{statement}
+use Rattle.removal.proofs.page.Tie as tie
 
 -- the block opens
 opens : (k : tie.After-enum-told) → openAnswer (k .before .before .before .before .args .block .now) ≡ 0
@@ -41,8 +41,8 @@ enum-told c = search needs
 attempt-requires : tie.Need-attempt-requires
 attempt-requires c κs = opens c
 
-enum-known-answer : tie.Need-enum-known-answer
-enum-known-answer c = search needs
+enum-known-told : tie.Need-enum-known-told
+enum-known-told c = search needs
 
 returns-2 : tie.Need-returns-2
 returns-2 c =
@@ -50,7 +50,7 @@ returns-2 c =
     let k = tried .before in
     let args = k .before .before .before .before .args in
     let number = tried-number (args .block .now) blank (args .e) (args .f) (opens k) blank-size _ (tried .attempt .ensures) _
-    (c .before .answer .given .1) in
+    (c .before .told .given .1) in
     ap (λ (r : Removed). r .removal) (refusal-gives (args .block .now) blank (args .e) (args .f) _ number)
 
 enum-told-2 : tie.Need-enum-told-2
@@ -92,7 +92,7 @@ page-spec =
     returns
     enum-told
     attempt-requires
-    enum-known-answer
+    enum-known-told
     returns-2
     enum-told-2
     slice-aggregate-replace
