@@ -57,18 +57,6 @@ const NAMES: [(&str, usize); 44] = [
     ("WORST_AFTER", place::WORST_AFTER),
 ];
 
-/// The bytes of stack that the header promises, held to what is measured by tests/stack.rs.
-const STACK_NAMES: [&str; 8] = [
-    "STACK_OPEN",
-    "STACK_SEAL",
-    "STACK_SUMMARY",
-    "STACK_SHOWN",
-    "STACK_REMOVE",
-    "STACK_PAGE",
-    "STACK_FLIP_32",
-    "STACK_FLIP_23",
-];
-
 /// The header without its comments.
 fn header() -> String {
     let text = fs::read_to_string(house().join("include/sumpnewt.h")).expect("the header");
@@ -93,10 +81,9 @@ fn header_names() -> Vec<String> {
 
 #[test]
 fn the_headers_numbers_are_the_models() {
-    let (stack, names): (Vec<String>, Vec<String>) = header_names()
-        .into_iter()
-        .partition(|name| name.starts_with("STACK_"));
-    assert_eq!(stack, STACK_NAMES);
+    let mut names = header_names();
+    // These are held by tests/stack.rs.
+    names.retain(|name| !name.starts_with("STACK_"));
     let line = |name: &String| format!("    printf(\"{name} %d\\n\", (int)SUMPNEWT_{name});\n");
     let lines: String = names.iter().map(line).collect();
     let source = scratch("names.c");

@@ -22,7 +22,7 @@ use Rattle.triangulation.specs.Steps.{siteIn}
 
 -- how many places points have: as many as a block has points
 abbrev pub places : ℕ
-places = 64
+places = maxPoints
 
 -- a point is met: it is looked up at its number modulo the places
 abbrev pub metAt : List Bool → ℕ → Bool

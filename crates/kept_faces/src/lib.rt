@@ -11,6 +11,7 @@ ghost use Rattle.keys.specs.Steps.{mostKeys, rowFaces, faceKey};
 ghost use Rattle.ring.specs.Ring.{maxRing};
 ghost use Rattle.kept_faces.specs.Steps.{places, RimMet, keyed, keptOf, keptKeys, Gathered, usedBy};
 use keys::MOST_KEYS;
+use layout::MAX_POINTS;
 use ring::MAX_RING;
 use rows::Row;
 
@@ -21,8 +22,8 @@ pub struct Rim {
     pub v: [u8; MAX_RING],
 }
 
-// The places of points. A block has at most 64 points, so no two of them share one.
-const PLACES: usize = 64;
+// The places of points: as many as a block has points, so no two of them share one.
+const PLACES: usize = MAX_POINTS;
 
 // The place of a point: its number modulo 64.
 fn place(point: u8) -> usize
