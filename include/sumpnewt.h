@@ -95,8 +95,7 @@ extern "C" {
 #define SUMPNEWT_STACK_SHOWN 1224
 #define SUMPNEWT_STACK_REMOVE 3480
 #define SUMPNEWT_STACK_PAGE 3784
-#define SUMPNEWT_STACK_FLIP_32 3176
-#define SUMPNEWT_STACK_FLIP_23 1544
+#define SUMPNEWT_STACK_FLIP 3176
 
 /* The answers, in the order in which they are tested. */
 enum {
@@ -109,6 +108,7 @@ enum {
     SUMPNEWT_COORDINATE = 6,     /* a coordinate is over 128 */
     SUMPNEWT_ROW = 7,            /* a row's number is not below the point count, or repeats */
     SUMPNEWT_FACE_TWICE = 8,     /* a directed face stands in two rows */
+    SUMPNEWT_NOT_TWO_OR_THREE = 21, /* flip: neither two numbers nor three are given */
     SUMPNEWT_BAD_NUMBER = 9,     /* an edge or face number is not below the point count, or equal to another */
     SUMPNEWT_NOT_HELD = 10,      /* no row holds the edge or face */
     SUMPNEWT_NOT_CLOSED = 11,    /* the tetrahedra round the edge do not all close; removal: and are not one open chain
@@ -183,16 +183,13 @@ uint32_t sumpnewt_remove(const uint8_t *block, size_t n, size_t a, size_t b, uin
 uint32_t sumpnewt_page(const uint8_t *block, size_t n, size_t a, size_t b, double *row, size_t row_n);
 
 /*
- * Flips the three rows that close round the edge between a and b to two, whatever their quality.
- * out_n must be 512. Answers 0 to 13 and 15; 11 for every open case, 13 unless there are exactly three.
+ * Flips, whatever the quality. Two numbers are the ends of an edge, in either order: the three rows that close round it
+ * become two. Three numbers are a face, in any order: the two rows at it become three. Any other count gets 21.
+ * The new block has the kept rows in order, then the new rows with the region of the first removed row; points stay.
+ * out_n must be 512. Answers with two numbers: 0 to 13 and 15; 11 for every open case, 13 unless there are exactly three.
+ * With three: 0 to 11, 18, 14 and 15. With any other count: 1 to 8 and 21. With count 0 numbers may be a null pointer.
  */
-uint32_t sumpnewt_flip_32(const uint8_t *block, size_t n, size_t a, size_t b, uint8_t *out, size_t out_n);
-
-/*
- * Flips the two rows at the face u, v, w, in any order, to three, whatever their quality.
- * out_n must be 512. Answers 0 to 11, 18, 14 and 15.
- */
-uint32_t sumpnewt_flip_23(const uint8_t *block, size_t n, size_t u, size_t v, size_t w, uint8_t *out, size_t out_n);
+uint32_t sumpnewt_flip(const uint8_t *block, size_t n, const size_t *numbers, size_t count, uint8_t *out, size_t out_n);
 
 #ifdef __cplusplus
 }

@@ -1,12 +1,15 @@
 -- What an accepted call leaves, for each call that writes, and how many rows there are then.
-use Prim.Native.Nat.{ℕ, _+_, _-_, _≤_, min, max}
-use mathlib.Core.Bool.{true, false, cond}
+use Prim.Native.Nat.{ℕ, _+_, _-_, _≤_, _<_, min, max}
+use mathlib.Core.Bool.{Bool, true, false, cond, _&&_}
 use mathlib.Core.List.{List, [], _∷_}
-use mathlib.Core.Path.{_≡_, refl}
+use mathlib.Core.Path.{_≡_, refl, sym, ap, _∙_, subst, fun-ext}
+use native.Mathlib.Decide.{decLt}
 use native.Mathlib.Omega.{arith}
 use borrow.Author.Tests.{ltb-false}
 use lib.ListN.{length}
-use Rattle.rows.specs.Rows.{holdsEdge, holdsFace}
+use Rattle.lists.specs.Lists.{every}
+use Rattle.lists.proofs.Tests.{and-true}
+use Rattle.rows.specs.Rows.{holds, holdsEdge, holdsFace}
 use Rattle.layout.specs.Layout.{maxRows, fieldsOf, bytesOf}
 use Rattle.block.proofs.RightBlocks.{right-block}
 use Rattle.layout.proofs.PatchWritten.{rows-counted}
@@ -16,8 +19,8 @@ use Rattle.triangulation.specs.Admissible.{admissible}
 use Rattle.triangulation.specs.Best.{chosen}
 use Rattle.triangulation.proofs.WholeRing.{after-length, after-rows}
 use Rattle.calls.specs.Removing.{noWay, patchAfter, removeAnswer, removeBytes, Sound}
-use Rattle.calls.specs.Flipping.{flip32Answer, flip32Bytes, pairOf, threeRows, patchAfter23, flip23Answer, flip23Bytes}
-use Rattle.calls.proofs.CallTests.{Flips23, removes, flips-32, flips-23}
+use Rattle.calls.specs.Flipping.{pairOf, threeRows, patchAfter23, rowsFlipped, patchFlipped, flipAnswer, flipBytes}
+use Rattle.calls.proofs.CallTests.{Flips23, removes, each-count, never-done, flips-32, flips-23}
 use Rattle.calls.proofs.SoundEdges.{opens-rule, sound-site}
 use Rattle.tables.proofs.FacingRows.{Facing, face-apart, two-facing, flipped-total}
 use Rattle.tables.proofs.RingReplaced.{length-fits}
@@ -65,10 +68,10 @@ remove-accepted block out e f h =
     rw h (site-accepted block e f (r .sound) (r .closed-or-flat) (length-fits site (r .length-right) .0) (r .way)
     (ltb-false maxRows (rowsAfter site) (r .room)))
 
-pub flip32-accepted : (block out : List ℕ) (e f : ℕ) → flip32Answer block out e f ≡ 0
+pub flip32-accepted : (block out : List ℕ) (e f : ℕ) → flipAnswer block out (e ∷ f ∷ []) ≡ 0
     → let site = siteOf (fieldsOf block) e f in
-    Accepted block (flip32Bytes block out e f) (holdsEdge (min e f) (max e f)) (newRows site 1 (chosen site))
-unfolding flip32Bytes
+    Accepted block (flipBytes block out (e ∷ f ∷ [])) (holdsEdge (min e f) (max e f)) (newRows site 1 (chosen site))
+unfolding flipBytes patchFlipped
 flip32-accepted block out e f h =
     let r = flips-32 block out e f h in
     rw h (site-accepted block e f (r .sound) (rw (r .closed)) (omega (arith, r .three)) (r .way)
@@ -82,10 +85,10 @@ flips-facing block out x y z r =
     two-facing count (fieldsOf block) (x ∷ y ∷ z ∷ []) refl (face-apart count (x ∷ y ∷ z ∷ []) (r .numbers)) (opens-rule block (r .opens))
     (r .some-row) (r .no-single) (r .apart)
 
-pub flip23-accepted : (block out : List ℕ) (x y z : ℕ) → flip23Answer block out x y z ≡ 0
+pub flip23-accepted : (block out : List ℕ) (x y z : ℕ) → flipAnswer block out (x ∷ y ∷ z ∷ []) ≡ 0
     → let face = x ∷ y ∷ z ∷ [] in
-    Accepted block (flip23Bytes block out x y z) (holdsFace face) (threeRows (pairOf (fieldsOf block) face) face)
-unfolding flip23Bytes patchAfter23 pairOf
+    Accepted block (flipBytes block out (x ∷ y ∷ z ∷ [])) (holdsFace face) (threeRows (pairOf (fieldsOf block) face) face)
+unfolding flipBytes patchFlipped patchAfter23 pairOf
 flip23-accepted block out x y z h =
     let r = flips-23 block out x y z h in
     let face : List ℕ = x ∷ y ∷ z ∷ [] in
@@ -94,3 +97,46 @@ flip23-accepted block out x y z h =
     rw h
     (accepted block (r .opens) (patchAfter23 patch face .rows) (r .room) (r .rule) (holdsFace face) (threeRows pair face) refl
     (flipped-total patch face (flips-facing block out x y z r)))
+
+-- ---- the flip, whichever it is
+
+-- what does not go by the order of two numbers has the same value for the two in order
+pub in-order : {A : Type 0} (g : ℕ → ℕ → A) → ((m n : ℕ) → g m n ≡ g n m) → (a b : ℕ) → g (min a b) (max a b) ≡ g a b
+in-order g swap a b = go (decLt b a)
+  where
+    go : Dec (b < a) → g (min a b) (max a b) ≡ g a b
+    go (yes h) =
+        let low : min a b ≡ b = omega arith in
+        let high : max a b ≡ a = omega arith in
+        rw (low, high) (swap b a)
+    go (no h) =
+        let low : min a b ≡ a = omega arith in
+        let high : max a b ≡ b = omega arith in
+        rw (low, high)
+
+-- a row holds the edge, whichever end is named first
+pub edge-swap : (m n : ℕ) → holdsEdge m n ≡ holdsEdge n m
+edge-swap m n = fun-ext (λ row. and-swap (holds row m) (holds row n))
+  where
+    and-swap : (p q : Bool) → p && q ≡ q && p
+    and-swap true true = refl
+    and-swap true false = refl
+    and-swap false true = refl
+    and-swap false false = refl
+
+-- a row holds the edge where it holds both numbers
+pub ends-held : (e f : ℕ) → holdsEdge (min e f) (max e f) ≡ holdsFace (e ∷ f ∷ [])
+unfolding every
+ends-held e f = in-order holdsEdge edge-swap e f ∙ fun-ext (λ row. ap (λ b. holds row e && b) (sym (and-true (holds row f))))
+
+-- the rows that hold all of its numbers go
+pub flip-accepted : (block out numbers : List ℕ) → flipAnswer block out numbers ≡ 0
+    → Accepted block (flipBytes block out numbers) (holdsFace numbers) (rowsFlipped (fieldsOf block) numbers)
+unfolding rowsFlipped
+flip-accepted block out =
+    each-count
+    (λ numbers. flipAnswer block out numbers ≡ 0
+    → Accepted block (flipBytes block out numbers) (holdsFace numbers) (rowsFlipped (fieldsOf block) numbers))
+    (λ e f h. subst (λ goes. Accepted block (flipBytes block out (e ∷ f ∷ [])) goes _) (ends-held e f) (flip32-accepted block out e f h))
+    (flip23-accepted block out)
+    (λ numbers two three h. absurd (never-done block out numbers two three h))

@@ -1,6 +1,7 @@
 -- Requirement §9: the numbers that each call answers, in the order of the table of answers.
 use Prim.Native.Nat.{ℕ}
 use mathlib.Core.List.{List, [], _∷_, _++_}
+use Rattle.calls.specs.Flipping.{byCount}
 
 -- the numbers that opening, the summary and what is shown answer
 abbrev pub openNumbers : List ℕ
@@ -14,10 +15,10 @@ sealNumbers = 0 ∷ 1 ∷ 3 ∷ 4 ∷ 5 ∷ 6 ∷ 7 ∷ 8 ∷ []
 abbrev pub removeNumbers : List ℕ
 removeNumbers = openNumbers ++ (9 ∷ 10 ∷ 11 ∷ 12 ∷ 13 ∷ 19 ∷ 14 ∷ 15 ∷ 16 ∷ [])
 
--- the numbers that a 3-2 flip answers
-abbrev pub flip32Numbers : List ℕ
-flip32Numbers = openNumbers ++ (9 ∷ 10 ∷ 11 ∷ 12 ∷ 13 ∷ 15 ∷ [])
-
--- the numbers that a 2-3 flip answers
-abbrev pub flip23Numbers : List ℕ
-flip23Numbers = openNumbers ++ (9 ∷ 10 ∷ 11 ∷ 18 ∷ 14 ∷ 15 ∷ [])
+-- the numbers that a flip answers, by how many it is given: of an edge, of a face, and with any other count, with which it is never done
+abbrev pub flipNumbers : List ℕ → List ℕ
+flipNumbers =
+    byCount
+    (λ e f. openNumbers ++ (9 ∷ 10 ∷ 11 ∷ 12 ∷ 13 ∷ 15 ∷ []))
+    (λ x y z. openNumbers ++ (9 ∷ 10 ∷ 11 ∷ 18 ∷ 14 ∷ 15 ∷ []))
+    (1 ∷ 2 ∷ 3 ∷ 4 ∷ 5 ∷ 6 ∷ 7 ∷ 8 ∷ 21 ∷ [])

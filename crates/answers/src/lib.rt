@@ -56,6 +56,9 @@ pub const ONE_APEX: u8 = 18;
 // The chain is not flat.
 pub const NOT_FLAT: u8 = 19;
 
+// Flip: neither two numbers nor three are given.
+pub const NOT_TWO_OR_THREE: u8 = 21;
+
 // What a call answers that gives nothing else: done, or the number of the refusal.
 pub enum Answer {
     Done,

@@ -1,18 +1,18 @@
 -- The tests of the calls, by their numbers: what answer 0 says of each, and what those of a block and an edge leave.
 use Prim.Native.Nat.{ℕ, _≤_}
 use mathlib.Core.Bool.{Bool, true, false, cond, not, _||_}
-use mathlib.Core.List.{List, [], _∷_, _++_}
+use mathlib.Core.List.{List, [], _∷_, _++_, append-assoc}
 use mathlib.Core.Path.{_≡_, refl, sym, ap, _∙_, subst}
 use native.Mathlib.Omega.{arith}
 use borrow.Author.Tests.{eqb-true, eqb-false, eq-eqb, ltb-false, not-false}
 use lib.Dec.{T, eqb}
 use lib.ListN.{length}
 use Rattle.lists.specs.Lists.{every}
-use Rattle.lists.proofs.Tests.{is-yes, neither-is, or-true}
+use Rattle.lists.proofs.Tests.{is-yes, neither-is, or-true, or-false}
 use Rattle.mesh.specs.Mesh.{keepsMeshRule}
 use Rattle.answers.specs.declared.Answer.{Answer}
 use Rattle.answers.specs.declared.Answer.the-variants.{Done, Refused}
-use Rattle.layout.specs.Layout.{blockBytes, maxRows, fieldsOf}
+use Rattle.layout.specs.Layout.{Patch, blockBytes, maxRows, fieldsOf}
 use Rattle.answers.specs.Answers.{Tests, firstRefusal, answerOf}
 use Rattle.block.specs.Opening.{notBlock, openAnswer}
 use Rattle.body.specs.Body.{bodyTests}
@@ -23,7 +23,7 @@ use Rattle.ring.specs.Ring.{Site, siteOf, m, minRing, numbersWrong, ringsAlone,
 use Rattle.ring.proofs.EdgeGoesRound.{closed-passed}
 use Rattle.calls.specs.Removing.{blockTests, noRoom, noWay, noneBetter, removeAnswer, Sound}
 use Rattle.calls.specs.Removing.{removalTests}
-use Rattle.calls.specs.Flipping.{flip32Tests, flip32Answer, pairOf, patchAfter23, flip23Tests, flip23Answer}
+use Rattle.calls.specs.Flipping.{flip32Tests, pairOf, patchAfter23, flip23Tests, flipTests, flipAnswer}
 use Rattle.calls.proofs.HandedOn.{Number, number-handed, handed-done}
 
 -- ---- the block and the edge
@@ -37,23 +37,21 @@ front-numbered : (chains : Bool) (block out : List ℕ) (site : Site) (e f : ℕ
 unfolding blockTests bodyTests edgeTests every
 front-numbered chains block out site e f = tt
 
--- with both lengths right they are the answers of opening
-pub both-opened : (block out : List ℕ) → length block ≡ blockBytes → length out ≡ blockBytes
-    → firstRefusal (blockTests block out) ≡ openAnswer block
+-- with an output block they are the answers of opening
+pub out-opened : (block out : List ℕ) → length out ≡ blockBytes → firstRefusal (blockTests block out) ≡ openAnswer block
 unfolding blockTests firstRefusal openAnswer
-both-opened block out a b = rw (eq-eqb (length block) blockBytes a, eq-eqb (length out) blockBytes b)
+out-opened block out size = rw (eq-eqb (length out) blockBytes size, or-false (notBlock block))
 
 -- answers 1 to 8 are not given exactly when the block opens and the output is a block
 block-passed : (block out : List ℕ) → firstRefusal (blockTests block out) ≡ 0 → (openAnswer block ≡ 0) × (length out ≡ blockBytes)
 unfolding blockTests testOf
 block-passed block out e =
     let (own, other) = neither-is (notBlock block) (notBlock out) (passes 1 (blockTests block out) (block-numbered block out) e) in
-    let size = eqb-true (length block) blockBytes (not-false (eqb (length block) blockBytes) own) in
     let size-out = eqb-true (length out) blockBytes (not-false (eqb (length out) blockBytes) other) in
-    (sym (both-opened block out size size-out) ∙ e, size-out)
+    (sym (out-opened block out size-out) ∙ e, size-out)
 
 passed-block : (block out : List ℕ) → openAnswer block ≡ 0 → length out ≡ blockBytes → firstRefusal (blockTests block out) ≡ 0
-passed-block block out opens size = both-opened block out (right-block block opens .size) size ∙ opens
+passed-block block out opens size = out-opened block out size ∙ opens
 
 -- of a block that opens, only the length of the output is tested
 pub block-opened : (block out : List ℕ) (rest : Tests) → openAnswer block ≡ 0
@@ -169,7 +167,48 @@ pub remove-left : (block out : List ℕ) (e f : ℕ) → Sound block e f → len
 unfolding removeAnswer
 remove-left block out e f sound size = left orChains block out e f _ (sound .opens) (sound .one) size
 
--- ---- the 3-2 flip
+-- ---- the flip
+
+-- what is so with two numbers, with three and with any other count is always so
+pub each-count : (P : List ℕ → Type 0) → ((e f : ℕ) → P (e ∷ f ∷ [])) → ((x y z : ℕ) → P (x ∷ y ∷ z ∷ []))
+    → ((numbers : List ℕ) → (length numbers ≡ 2 → ⊥) → (length numbers ≡ 3 → ⊥) → P numbers) → (numbers : List ℕ) → P numbers
+each-count P two three other [] = other [] (λ e. omega arith) (λ e. omega arith)
+each-count P two three other (x ∷ []) = other (x ∷ []) (λ e. omega arith) (λ e. omega arith)
+each-count P two three other (x ∷ y ∷ []) = two x y
+each-count P two three other (x ∷ y ∷ z ∷ []) = three x y z
+each-count P two three other (x ∷ y ∷ z ∷ w ∷ more) = other (x ∷ y ∷ z ∷ w ∷ more) (λ e. omega arith) (λ e. omega arith)
+
+-- what is left of it behind the block's own answers
+pub flip-left : (block out numbers : List ℕ) → openAnswer block ≡ 0 → length out ≡ blockBytes
+    → flipAnswer block out numbers ≡ firstRefusal (flipTests (fieldsOf block) numbers)
+unfolding flipAnswer
+flip-left block out numbers opens size = block-left block out (flipTests (fieldsOf block) numbers) opens size
+
+-- 21 is left where neither two numbers nor three are given
+pub miscounted : (patch : Patch) (numbers : List ℕ) → (length numbers ≡ 2 → ⊥) → (length numbers ≡ 3 → ⊥)
+    → flipTests patch numbers ≡ (21, true) ∷ []
+unfolding flipTests
+miscounted patch [] two three = refl
+miscounted patch (x ∷ []) two three = refl
+miscounted patch (x ∷ y ∷ []) two three = absurd (two refl)
+miscounted patch (x ∷ y ∷ z ∷ []) two three = absurd (three refl)
+miscounted patch (x ∷ y ∷ z ∷ w ∷ more) two three = refl
+
+-- so it is not done
+pub never-done : (block out numbers : List ℕ) → (length numbers ≡ 2 → ⊥) → (length numbers ≡ 3 → ⊥) → flipAnswer block out numbers ≡ 0 → ⊥
+unfolding flipAnswer firstRefusal
+never-done block out numbers two three h =
+    let rest = both-passed 0 (blockTests block out) (flipTests (fieldsOf block) numbers) (block-numbered block out) h .1 in
+    omega (arith, rw (miscounted (fieldsOf block) numbers two three) at rest)
+
+-- with two numbers: the block, the edge, then the flip's own, as of every call on an edge
+pub flip-two : (block out : List ℕ) (e f : ℕ)
+    → let site = siteOf (fieldsOf block) e f in
+    flipAnswer block out (e ∷ f ∷ []) ≡ firstRefusal (blockTests block out ++ edgeTests ringsAlone site e f ++ flip32Tests site)
+unfolding flipAnswer flipTests
+flip-two block out e f =
+    let site = siteOf (fieldsOf block) e f in
+    sym (ap firstRefusal (append-assoc (blockTests block out) (edgeTests ringsAlone site e f) (flip32Tests site)))
 
 -- What answer 0 of a 3-2 flip says.
 pub record Flips32 (block out : List ℕ) (e f : ℕ) : Type 0 where
@@ -179,12 +218,13 @@ pub record Flips32 (block out : List ℕ) (e f : ℕ) : Type 0 where
   pub three : m (siteOf (fieldsOf block) e f) ≡ minRing
   pub way : noWay (siteOf (fieldsOf block) e f) ≡ false
 
-pub flips-32 : (block out : List ℕ) (e f : ℕ) → flip32Answer block out e f ≡ 0 → Flips32 block out e f
-unfolding flip32Answer flip32Tests testOf every
+pub flips-32 : (block out : List ℕ) (e f : ℕ) → flipAnswer block out (e ∷ f ∷ []) ≡ 0 → Flips32 block out e f
+unfolding flip32Tests testOf every
 flips-32 block out e f h =
     let site = siteOf (fieldsOf block) e f in
     let tests = flip32Tests site in
-    let (sound, size, rest, closed) = reached ringsAlone block out e f tests 0 (front-numbered ringsAlone block out site e f) h in
+    let (sound, size, rest, closed) = reached ringsAlone block out e f tests 0 (front-numbered ringsAlone block out site e f)
+    (sym (flip-two block out e f) ∙ h) in
     record {
       sound = sound;
       closed = closed refl;
@@ -195,18 +235,16 @@ flips-32 block out e f h =
 
 pub flip32-left : (block out : List ℕ) (e f : ℕ) → Sound block e f → siteOf (fieldsOf block) e f .closed ≡ true
     → length out ≡ blockBytes
-    → flip32Answer block out e f ≡ firstRefusal (flip32Tests (siteOf (fieldsOf block) e f))
-unfolding flip32Answer
+    → flipAnswer block out (e ∷ f ∷ []) ≡ firstRefusal (flip32Tests (siteOf (fieldsOf block) e f))
 flip32-left block out e f sound closed size =
-    left ringsAlone block out e f _ (sound .opens)
+    flip-two block out e f
+    ∙ left ringsAlone block out e f _ (sound .opens)
     (ap firstRefusal (closed-tests ringsAlone (siteOf (fieldsOf block) e f) e f closed) ∙ sound .one) size
 
--- ---- the 2-3 flip
-
 pub flip23-left : (block out : List ℕ) (x y z : ℕ) → openAnswer block ≡ 0 → length out ≡ blockBytes
-    → flip23Answer block out x y z ≡ firstRefusal (flip23Tests (fieldsOf block) (x ∷ y ∷ z ∷ []))
-unfolding flip23Answer
-flip23-left block out x y z opens size = block-left block out _ opens size
+    → flipAnswer block out (x ∷ y ∷ z ∷ []) ≡ firstRefusal (flip23Tests (fieldsOf block) (x ∷ y ∷ z ∷ []))
+unfolding flipTests
+flip23-left block out x y z opens size = flip-left block out (x ∷ y ∷ z ∷ []) opens size
 
 -- What answer 0 of a 2-3 flip says.
 pub record Flips23 (block out : List ℕ) (x y z : ℕ) : Type 0 where
@@ -219,8 +257,8 @@ pub record Flips23 (block out : List ℕ) (x y z : ℕ) : Type 0 where
   pub room : length (patchAfter23 (fieldsOf block) (x ∷ y ∷ z ∷ []) .rows) ≤ maxRows
   pub rule : T (keepsMeshRule (length (fieldsOf block .points)) (patchAfter23 (fieldsOf block) (x ∷ y ∷ z ∷ []) .rows))
 
-pub flips-23 : (block out : List ℕ) (x y z : ℕ) → flip23Answer block out x y z ≡ 0 → Flips23 block out x y z
-unfolding flip23Answer flip23Tests testOf every
+pub flips-23 : (block out : List ℕ) (x y z : ℕ) → flipAnswer block out (x ∷ y ∷ z ∷ []) ≡ 0 → Flips23 block out x y z
+unfolding flipAnswer flipTests flip23Tests testOf every
 flips-23 block out x y z h =
     let face : List ℕ = x ∷ y ∷ z ∷ [] in
     let patch = fieldsOf block in

@@ -1,4 +1,5 @@
 pub mod HandedOn
 pub mod CallTests
+pub mod FlipTold
 pub mod SoundEdges
 pub mod BestDecides

@@ -1,6 +1,7 @@
--- Requirement §8: from all inputs to the answer and every byte of the output.
+-- Requirement §8: one call for both plain flips, from all inputs to its answer and every byte of the output. Two numbers are the ends of an
+-- edge, three are a face.
 use Prim.Native.Nat.{ℕ, max}
-use mathlib.Core.Bool.{not}
+use mathlib.Core.Bool.{true, not}
 use mathlib.Core.List.{List, [], _∷_, _++_, map, foldr}
 use lib.Dec.{eqb, ltb}
 use lib.ListN.{length}
@@ -13,7 +14,8 @@ use Rattle.layout.specs.Layout.{Patch, maxRows, fieldsOf, bytesOf}
 use Rattle.answers.specs.Answers.{Tests, firstRefusal, written}
 use Rattle.ring.specs.Ring.{Site, siteOf, m, minRing, numbersWrong, ringsAlone, edgeTests}
 use Rattle.walk.specs.Walk.{smallest}
-use Rattle.triangulation.specs.Triangulation.{regionOf}
+use Rattle.triangulation.specs.Triangulation.{regionOf, newRows}
+use Rattle.triangulation.specs.Best.{chosen}
 use Rattle.calls.specs.Removing.{blockTests, noWay, patchAfter}
 
 -- ---- the 3-2 flip: removal of an edge with a closed ring of m = 3, with no quality test
@@ -21,16 +23,6 @@ use Rattle.calls.specs.Removing.{blockTests, noWay, patchAfter}
 -- answers 13 and 15 of a 3-2 flip; 13: m is not 3; one row fewer comes than goes, so there is always room
 unfoldable pub flip32Tests : Site → Tests
 flip32Tests site = (13, not (eqb (m site) minRing)) ∷ (15, noWay site) ∷ []
-
--- numbered answers, tested from the top
-unfoldable pub flip32Answer : List ℕ → List ℕ → ℕ → ℕ → ℕ
-flip32Answer block out e f =
-    let site = siteOf (fieldsOf block) e f in
-    firstRefusal (blockTests block out ++ edgeTests ringsAlone site e f ++ flip32Tests site)
-
--- each byte of the output block after the 3-2 flip of edge e f
-unfoldable pub flip32Bytes : List ℕ → List ℕ → ℕ → ℕ → List ℕ
-flip32Bytes block out e f = written (flip32Answer block out e f) (bytesOf (patchAfter (siteOf (fieldsOf block) e f))) out
 
 -- ---- the 2-3 flip: a face in two rows
 
@@ -87,12 +79,44 @@ flip23Tests patch face =
     ∷ (14, ltb maxRows (length rows))
     ∷ (15, not (keepsMeshRule count rows)) ∷ []
 
--- numbered answers, tested from the top
-unfoldable pub flip23Answer : List ℕ → List ℕ → ℕ → ℕ → ℕ → ℕ
-flip23Answer block out x y z =
-    firstRefusal (blockTests block out ++ flip23Tests (fieldsOf block) (x ∷ y ∷ z ∷ []))
+-- ---- the call
 
--- each byte of the output block after the 2-3 flip of face x y z
-unfoldable pub flip23Bytes : List ℕ → List ℕ → ℕ → ℕ → ℕ → List ℕ
-flip23Bytes block out x y z =
-    written (flip23Answer block out x y z) (bytesOf (patchAfter23 (fieldsOf block) (x ∷ y ∷ z ∷ []))) out
+-- a value for two numbers, one for three and one for any other count
+abbrev pub byCount : {A : Type 0} → (ℕ → ℕ → A) → (ℕ → ℕ → ℕ → A) → A → List ℕ → A
+byCount two three other [] = other
+byCount two three other (x ∷ []) = other
+byCount two three other (x ∷ y ∷ []) = two x y
+byCount two three other (x ∷ y ∷ z ∷ []) = three x y z
+byCount two three other (x ∷ y ∷ z ∷ w ∷ more) = other
+
+-- its answers behind those of the block; 21: neither two nor three numbers are given, whatever they are
+unfoldable pub flipTests : Patch → List ℕ → Tests
+flipTests patch =
+    byCount
+    (λ e f. let site = siteOf patch e f in edgeTests ringsAlone site e f ++ flip32Tests site)
+    (λ x y z. flip23Tests patch (x ∷ y ∷ z ∷ []))
+    ((21, true) ∷ [])
+
+-- the new rows in written order
+unfoldable pub rowsFlipped : Patch → List ℕ → List Row
+rowsFlipped patch =
+    byCount
+    (λ e f. let site = siteOf patch e f in newRows site 1 (chosen site))
+    (λ x y z. let face = x ∷ y ∷ z ∷ [] in threeRows (pairOf patch face) face)
+    []
+
+-- the patch afterwards; with any other count, which is refused, there is none
+unfoldable pub patchFlipped : Patch → List ℕ → Patch
+patchFlipped patch =
+    byCount
+    (λ e f. patchAfter (siteOf patch e f))
+    (λ x y z. patchAfter23 patch (x ∷ y ∷ z ∷ []))
+    patch
+
+-- numbered answers, tested from the top
+unfoldable pub flipAnswer : List ℕ → List ℕ → List ℕ → ℕ
+flipAnswer block out numbers = firstRefusal (blockTests block out ++ flipTests (fieldsOf block) numbers)
+
+-- each byte of the output block afterwards
+unfoldable pub flipBytes : List ℕ → List ℕ → List ℕ → List ℕ
+flipBytes block out numbers = written (flipAnswer block out numbers) (bytesOf (patchFlipped (fieldsOf block) numbers)) out

@@ -56,33 +56,37 @@ nine chains block {e} {f} rest h = refuses 9 _ _ (rw (eq-eqb e f h) (wrong (ltb 
     wrong true false = refl
     wrong false b = refl
 
--- the tests of an edge, then others that are the same where the edge is sound
-edge-then : (chains : Bool) (block other out : List ℕ) (e f : ℕ) → SameMesh block other → (rest its-rest : Tests)
-    → ((e ≡ f → ⊥) → Sound block e f → Sound other e f → firstRefusal rest ≡ firstRefusal its-rest)
-    → firstRefusal (blockTests block out ++ edgeTests chains (siteOf (fieldsOf block) e f) e f ++ rest)
-    ≡ firstRefusal (blockTests other out ++ edgeTests chains (siteOf (fieldsOf other) e f) e f ++ its-rest)
-unfolding firstRefusal
-edge-then chains block other out e f same rest its-rest behind =
-    ap firstRefusal (append-assoc (blockTests block out) (edges block) rest)
-    ∙ block-opened block out (edges block ++ rest) (opens block (same .right))
-    ∙ ap (λ n. cond (notBlock out) 1 n) (go (eqb e f) refl)
-    ∙ sym (block-opened other out (edges other ++ its-rest) (opens other (same .other-right)))
-    ∙ sym (ap firstRefusal (append-assoc (blockTests other out) (edges other) its-rest))
-  where
-    edges : List ℕ → Tests
-    edges block = edgeTests chains (siteOf (fieldsOf block) e f) e f
+module _ (block other out : List ℕ) (same : SameMesh block other) where
+  -- behind both blocks, what is the same
+  blocks-then : (rest its-rest : Tests) → firstRefusal rest ≡ firstRefusal its-rest
+      → firstRefusal (blockTests block out ++ rest) ≡ firstRefusal (blockTests other out ++ its-rest)
+  unfolding firstRefusal
+  blocks-then rest its-rest behind =
+      block-opened block out rest (opens block (same .right))
+      ∙ ap (λ n. cond (notBlock out) 1 n) behind
+      ∙ sym (block-opened other out its-rest (opens other (same .other-right)))
 
-    go : (b : Bool) → eqb e f ≡ b → firstRefusal (edges block ++ rest) ≡ firstRefusal (edges other ++ its-rest)
-    go true h = nine chains block rest (eqb-true e f h) ∙ sym (nine chains other its-rest (eqb-true e f h))
-    go false h =
-        let apart = eqb-false e f h in
-        let tests = Removal.edge-same (fieldsOf block) (fieldsOf other) e f (tables same) apart in
-        same-behind (edges block) rest its-rest
-        (λ passes.
-        let one = taken chains (siteOf (fieldsOf block) e f) e f passes .0 in
-        behind apart (record { opens = opens block (same .right); one = one })
-        (record { opens = opens other (same .other-right); one = rw (← (tests orChains)) one }))
-        ∙ ap (λ front. firstRefusal (front ++ its-rest)) (tests chains)
+  -- the tests of an edge, then others that are the same where the edge is sound
+  edge-then : (chains : Bool) (e f : ℕ) (rest its-rest : Tests)
+      → ((e ≡ f → ⊥) → Sound block e f → Sound other e f → firstRefusal rest ≡ firstRefusal its-rest)
+      → firstRefusal (edgeTests chains (siteOf (fieldsOf block) e f) e f ++ rest)
+      ≡ firstRefusal (edgeTests chains (siteOf (fieldsOf other) e f) e f ++ its-rest)
+  edge-then chains e f rest its-rest behind = go (eqb e f) refl
+    where
+      edges : List ℕ → Tests
+      edges block = edgeTests chains (siteOf (fieldsOf block) e f) e f
+
+      go : (b : Bool) → eqb e f ≡ b → firstRefusal (edges block ++ rest) ≡ firstRefusal (edges other ++ its-rest)
+      go true h = nine chains block rest (eqb-true e f h) ∙ sym (nine chains other its-rest (eqb-true e f h))
+      go false h =
+          let apart = eqb-false e f h in
+          let tests = Removal.edge-same (fieldsOf block) (fieldsOf other) e f (tables same) apart in
+          same-behind (edges block) rest its-rest
+          (λ passes.
+          let one = taken chains (siteOf (fieldsOf block) e f) e f passes .0 in
+          behind apart (record { opens = opens block (same .right); one = one })
+          (record { opens = opens other (same .other-right); one = rw (← (tests orChains)) one }))
+          ∙ ap (λ front. firstRefusal (front ++ its-rest)) (tests chains)
 
 -- ---- the calls
 
@@ -104,15 +108,19 @@ module _ (block other out : List ℕ) (e f : ℕ) (same : SameMesh block other) 
   remove-answer-same : removeAnswer block out e f ≡ removeAnswer other out e f
   unfolding removeAnswer
   remove-answer-same =
-      edge-then orChains block other out e f same _ _
+      ap firstRefusal (append-assoc (blockTests block out) _ _)
+      ∙ blocks-then block other out same _ _
+      (edge-then block other out same orChains e f _ _
       (λ apart sound its-sound.
       Removal.removal-same (fieldsOf block) (fieldsOf other) e f (tables same) apart (sound-site block e f sound)
-      (sound-site other e f its-sound))
+      (sound-site other e f its-sound)))
+      ∙ sym (ap firstRefusal (append-assoc (blockTests other out) _ _))
 
-  flip32-answer-same : flip32Answer block out e f ≡ flip32Answer other out e f
-  unfolding flip32Answer
-  flip32-answer-same =
-      edge-then ringsAlone block other out e f same _ _
+  -- what is left of a flip of the edge
+  ends-left-same : firstRefusal (flipTests (fieldsOf block) (e ∷ f ∷ [])) ≡ firstRefusal (flipTests (fieldsOf other) (e ∷ f ∷ []))
+  unfolding flipTests
+  ends-left-same =
+      edge-then block other out same ringsAlone e f _ _
       (λ apart sound its-sound.
       Removal.flip-same (fieldsOf block) (fieldsOf other) e f (tables same) apart (sound-site block e f sound)
       (sound-site other e f its-sound))
@@ -140,34 +148,23 @@ module _ (block other out : List ℕ) (e f : ℕ) (same : SameMesh block other) 
       (remove-accepted other out e f (sym remove-answer-same ∙ done) .rows) (Removal.kept-same (fieldsOf block) (fieldsOf other) e f (tables same))
       (Removal.numbers-of (fieldsOf block) (fieldsOf other) e f (tables same) (ends-fit block e f (removes block out e f done .sound) .2))
 
-  flip32-output-same : flip32Answer block out e f ≡ 0
-      → SameOutput (holdsEdge (min e f) (max e f)) block other (flip32Bytes block out e f) (flip32Bytes other out e f)
-  unfolding siteOf
-  flip32-output-same done =
-      same-output (holdsEdge (min e f) (max e f)) _ _ (flip32-accepted block out e f done .rows)
-      (flip32-accepted other out e f (sym flip32-answer-same ∙ done) .rows) (Removal.kept-same (fieldsOf block) (fieldsOf other) e f (tables same))
-      (Removal.numbers-of (fieldsOf block) (fieldsOf other) e f (tables same) (ends-fit block e f (flips-32 block out e f done .sound) .2))
+-- a flip, whatever its numbers
+module _ (block other out : List ℕ) (same : SameMesh block other) where
+  left-same : (numbers : List ℕ) → firstRefusal (flipTests (fieldsOf block) numbers) ≡ firstRefusal (flipTests (fieldsOf other) numbers)
+  unfolding flipTests
+  left-same (e ∷ f ∷ []) = ends-left-same block other out e f same
+  left-same (x ∷ y ∷ z ∷ []) = Flip.tests-same (fieldsOf block) (fieldsOf other) x y z (tables same)
+  left-same [] = refl
+  left-same (x ∷ []) = refl
+  left-same (x ∷ y ∷ z ∷ w ∷ more) = refl
 
-module _ (block other out : List ℕ) (x y z : ℕ) (same : SameMesh block other) where
-  flip23-answer-same : flip23Answer block out x y z ≡ flip23Answer other out x y z
-  unfolding flip23Answer firstRefusal
-  flip23-answer-same =
-      let face : List ℕ = x ∷ y ∷ z ∷ [] in
-      block-opened block out (flip23Tests (fieldsOf block) face) (opens block (same .right))
-      ∙ ap (λ n. cond (notBlock out) 1 n) (Flip.tests-same (fieldsOf block) (fieldsOf other) x y z (tables same))
-      ∙ sym (block-opened other out (flip23Tests (fieldsOf other) face) (opens other (same .other-right)))
+  flip-answer-same : (numbers : List ℕ) → flipAnswer block out numbers ≡ flipAnswer other out numbers
+  unfolding flipAnswer
+  flip-answer-same numbers = blocks-then block other out same _ _ (left-same numbers)
 
-  flip23-output-same : flip23Answer block out x y z ≡ 0
-      → SameOutput (holdsFace (x ∷ y ∷ z ∷ [])) block other (flip23Bytes block out x y z) (flip23Bytes other out x y z)
-  unfolding pairOf
-  flip23-output-same done =
-      let face : List ℕ = x ∷ y ∷ z ∷ [] in
-      let r = flips-23 block out x y z done in
-      let apart = face-apart (length (fieldsOf block .points)) face (r .numbers) in
-      let (f, g) = Flip.both-face (fieldsOf block) (fieldsOf other) x y z (tables same) apart (r .some-row) (r .no-single) (r .apart) in
-      same-output (holdsFace face) _ _ (flip23-accepted block out x y z done .rows)
-      (flip23-accepted other out x y z (sym flip23-answer-same ∙ done) .rows) (Flip.kept-same (fieldsOf block) (fieldsOf other) x y z (tables same))
-      (Flip.three-same (fieldsOf block) (fieldsOf other) x y z (tables same) apart f g)
+  -- its new rows
+  rows-same : (numbers : List ℕ) → flipAnswer block out numbers ≡ 0
+      → map numbers-of-row (rowsFlipped (fieldsOf block) numbers) ≡ map numbers-of-row (rowsFlipped (fieldsOf other) numbers)
 
 pub any-row-order : AnyRowOrder ours
 unfolding ours

@@ -1,17 +1,16 @@
 -- A 3-2 flip after a 2-3 flip is done and brings back the same two tetrahedra, whichever way round the apexes are named.
-use Prim.Native.Nat.{ℕ, _<_, min, max}
-use mathlib.Core.Bool.{Bool, true, false, not, _&&_}
+use Prim.Native.Nat.{ℕ}
+use mathlib.Core.Bool.{true, not}
 use mathlib.Core.List.{List, [], _∷_, List·Memᴰ}
-use mathlib.Core.Path.{_≡_, refl, sym, ap, _∙_, subst}
-use native.Mathlib.Decide.{decLt}
+use mathlib.Core.Path.{_≡_, sym, ap, _∙_, subst}
 use native.Mathlib.Omega.{arith}
 use borrow.Author.Tests.{eq-eqb}
 use lib.Dec.{T}
 use lib.ListN.{length}
 use Rattle.lists.specs.Lists.{any}
-use Rattle.lists.proofs.Lists.{any-same, those-e}
+use Rattle.lists.proofs.Lists.{those-e}
 use Rattle.rows.specs.declared.Row.{Row}
-use Rattle.rows.specs.Rows.{holds, holdsEdge, holdsFace}
+use Rattle.rows.specs.Rows.{holdsEdge, holdsFace}
 use Rattle.rows.specs.Tetrahedra.{SameTetrahedra}
 use Rattle.layout.specs.Layout.{Patch, blockBytes, fieldsOf}
 use Rattle.answers.specs.Answers.{firstRefusal}
@@ -21,7 +20,7 @@ use Rattle.ring.specs.Ring.{Site, siteOf, m}
 use Rattle.triangulation.specs.Triangulation.{side, cut, tableAfter}
 use Rattle.triangulation.proofs.WholeRing.{RingWay}
 use Rattle.calls.specs.Removing.{Sound}
-use Rattle.calls.specs.Flipping.{flip32Tests, flip32Answer, flip32Bytes, Pair, pairOf, patchAfter23, flip23Answer, flip23Bytes}
+use Rattle.calls.specs.Flipping.{flip32Tests, Pair, pairOf, patchAfter23, flipAnswer, flipBytes}
 use Rattle.calls.proofs.CallTests.{flips-23, flip32-left, Flips23}
 use Rattle.calls.proofs.SoundEdges.{opens-rule, sound-site}
 use Rattle.tables.specs.FlipRows.{KeepsRule}
@@ -31,14 +30,14 @@ use Rattle.tables.proofs.RingOfThree.{three-chosen}
 use Rattle.tables.proofs.RingReplaced.{way-there}
 use Rattle.tables.proofs.FlippedBack.{back-passes, back-closed, back-three, back-table, back-way}
 use Rattle.accepted.proofs.AcceptedBytes.{patch-is}
-use Rattle.accepted.proofs.AcceptedCalls.{flips-facing, flip23-accepted, flip32-accepted}
+use Rattle.accepted.proofs.AcceptedCalls.{flips-facing, flip23-accepted, flip32-accepted, in-order, edge-swap}
 use Rattle.demands.specs.Kernels.{ours}
 use Rattle.demands.specs.Orders.{Flipped, BroughtBack}
-use Rattle.demands.proofs.EitherOrder.{flip32-answer-swap, flip32-bytes-swap}
+use Rattle.demands.proofs.EitherOrder.{ends-answer-swap, ends-bytes-swap}
 
 -- ---- the two flips
 
-module _ (block out other : List ℕ) (x y z : ℕ) (done : flip23Answer block out x y z ≡ 0) (size : length other ≡ blockBytes) where
+module _ (block out other : List ℕ) (x y z : ℕ) (done : flipAnswer block out (x ∷ y ∷ z ∷ []) ≡ 0) (size : length other ≡ blockBytes) where
   abbrev face : List ℕ
   face = x ∷ y ∷ z ∷ []
 
@@ -50,7 +49,7 @@ module _ (block out other : List ℕ) (x y z : ℕ) (done : flip23Answer block o
 
   -- the block between the two flips
   abbrev between : List ℕ
-  between = flip23Bytes block out x y z
+  between = flipBytes block out (x ∷ y ∷ z ∷ [])
 
   flipped : Flips23 block out x y z
   flipped = flips-23 block out x y z done
@@ -86,14 +85,14 @@ module _ (block out other : List ℕ) (x y z : ℕ) (done : flip23Answer block o
       the-way = rw fields-between (back-way patch face f rule (flipped .rule) no-row one-region)
 
       -- answer 0
-      back-answer : flip32Answer between other (pair .a) (pair .b) ≡ 0
+      back-answer : flipAnswer between other ((pair .a) ∷ (pair .b) ∷ []) ≡ 0
       unfolding flip32Tests firstRefusal
       back-answer =
           flip32-left between other (pair .a) (pair .b) sound closed size
           ∙ rw (eq-eqb (m site) 3 three, way-there site (omega (arith, three)) (cut side side) the-way)
 
       -- and the same tetrahedra
-      back-rows : SameTetrahedra (fieldsOf (flip32Bytes between other (pair .a) (pair .b)) .rows) (patch .rows)
+      back-rows : SameTetrahedra (fieldsOf (flipBytes between other ((pair .a) ∷ (pair .b) ∷ [])) .rows) (patch .rows)
       unfolding tableAfter siteOf
       back-rows =
           let made = flip32-accepted between other (pair .a) (pair .b) back-answer in
@@ -103,34 +102,14 @@ module _ (block out other : List ℕ) (x y z : ℕ) (done : flip23Answer block o
 
 -- ---- the apexes by words, in either order
 
--- what does not go by the order of two numbers has the same value for the two in order
-in-order : {A : Type 0} (g : ℕ → ℕ → A) → ((m n : ℕ) → g m n ≡ g n m) → (a b : ℕ) → g (min a b) (max a b) ≡ g a b
-in-order g swap a b = go (decLt b a)
-  where
-    go : Dec (b < a) → g (min a b) (max a b) ≡ g a b
-    go (yes h) =
-        let low : min a b ≡ b = omega arith in
-        let high : max a b ≡ a = omega arith in
-        rw (low, high) (swap b a)
-    go (no h) =
-        let low : min a b ≡ a = omega arith in
-        let high : max a b ≡ b = omega arith in
-        rw (low, high)
-
 edge-either : (rows : List Row) (m n : ℕ) → any (holdsEdge m n) rows ≡ any (holdsEdge n m) rows
-edge-either rows m n = any-same (holdsEdge m n) (holdsEdge n m) rows (λ row k. and-swap (holds row m) (holds row n))
-  where
-    and-swap : (p q : Bool) → p && q ≡ q && p
-    and-swap true true = refl
-    and-swap true false = refl
-    and-swap false true = refl
-    and-swap false false = refl
+edge-either rows m n = ap (λ held. any held rows) (edge-swap m n)
 
 module _ (block out other : List ℕ) (x y z a b : ℕ) (given : Flipped ours block out other x y z a b) where
   abbrev its : Pair
   its = pairOf (fieldsOf block) (x ∷ y ∷ z ∷ [])
 
-  was-done : flip23Answer block out x y z ≡ 0
+  was-done : flipAnswer block out (x ∷ y ∷ z ∷ []) ≡ 0
   unfolding ours
   was-done = sym (number-of _) ∙ given .done
 
@@ -151,17 +130,17 @@ module _ (block out other : List ℕ) (x y z a b : ℕ) (given : Flipped ours bl
       let (t-in, t-held) = those-e (holdsFace (x ∷ y ∷ z ∷ [])) (fieldsOf block .rows) i in
       given .one-region s t s-in t-in s-held t-held
 
-  given-answer : flip32Answer (flip23Bytes block out x y z) other a b ≡ 0
+  given-answer : flipAnswer (flipBytes block out (x ∷ y ∷ z ∷ [])) other (a ∷ b ∷ []) ≡ 0
   given-answer =
-      let between = flip23Bytes block out x y z in
-      sym (by-words (flip32Answer between other) (flip32-answer-swap between other))
+      let between = flipBytes block out (x ∷ y ∷ z ∷ []) in
+      sym (by-words (λ m n. flipAnswer between other (m ∷ n ∷ [])) (ends-answer-swap between other))
       ∙ back-answer block out other x y z was-done (given .right-length) none-held one-region
 
-  given-rows : SameTetrahedra (fieldsOf (flip32Bytes (flip23Bytes block out x y z) other a b) .rows) (fieldsOf block .rows)
+  given-rows : SameTetrahedra (fieldsOf (flipBytes (flipBytes block out (x ∷ y ∷ z ∷ [])) other (a ∷ b ∷ [])) .rows) (fieldsOf block .rows)
   given-rows =
-      let between = flip23Bytes block out x y z in
+      let between = flipBytes block out (x ∷ y ∷ z ∷ []) in
       subst (λ bytes. SameTetrahedra (fieldsOf bytes .rows) (fieldsOf block .rows))
-      (by-words (flip32Bytes between other) (flip32-bytes-swap between other))
+      (by-words (λ m n. flipBytes between other (m ∷ n ∷ [])) (ends-bytes-swap between other))
       (back-rows block out other x y z was-done (given .right-length) none-held one-region)
 
 pub brought-back : BroughtBack ours

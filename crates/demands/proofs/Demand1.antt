@@ -1,23 +1,27 @@
 -- Demand 1: what a call returns has the number of its definition, that number is on the call's list, and a refusal writes nothing and
 -- returns nothing else.
 -- An answer is the number of the first test that is true, so it is 0 or one of the tests' numbers.
-use Prim.Native.Nat.{ℕ}
-use mathlib.Core.List.{List}
-use mathlib.Core.Path.{_≡_, _∙_}
+use Prim.Native.Nat.{ℕ, zero, suc}
+use mathlib.Core.Bool.{true}
+use mathlib.Core.List.{List, [], _∷_, _++_}
+use mathlib.Core.Path.{_≡_, refl, _∙_}
+use native.Mathlib.Omega.{arith}
 use borrow.Author.Tests.{ne-eqb}
 use lib.Dec.{T}
-use Rattle.lists.specs.Lists.{has}
+use lib.ListN.{length}
+use Rattle.lists.specs.Lists.{any, has}
 use Rattle.body.specs.Body.{bodyTests}
 use Rattle.block.specs.Opening.{openAnswer, openGives, sealAnswer}
-use Rattle.layout.specs.Layout.{noFields}
+use Rattle.layout.specs.Layout.{fieldsOf, noFields}
 use Rattle.answers.proofs.Refusals.{on-list, number-of}
 use Rattle.block.proofs.OpenedAndSealed.{open-list, seal-list, seal-keeps}
 use Rattle.display.specs.Display.{shownAnswer}
 use Rattle.display.proofs.ShownRows.{shown-list, shown-keeps}
 use Rattle.ring.specs.Ring.{edgeTests}
 use Rattle.calls.specs.Removing.{blockTests, removeAnswer, removeBytes}
-use Rattle.calls.specs.Flipping.{flip32Tests, flip32Answer, flip32Bytes, flip23Tests, flip23Answer, flip23Bytes}
-use Rattle.accepted.specs.CallNumbers.{flip32Numbers, flip23Numbers}
+use Rattle.calls.specs.Flipping.{flip32Tests, flip23Tests, flipTests, flipAnswer, flipBytes}
+use Rattle.calls.proofs.CallTests.{miscounted, never-done}
+use Rattle.accepted.specs.CallNumbers.{flipNumbers}
 use Rattle.accepted.proofs.CallsNumbered.{kept-out, open-number, summary-number, remove-listed, remove-number, gives-no-ring}
 use Rattle.demands.specs.Kernels.{ours}
 use Rattle.demands.specs.Demands.{Demand1, Numbered}
@@ -27,13 +31,27 @@ gives-no-fields : (block : List ℕ) → (openAnswer block ≡ 0 → ⊥) → op
 unfolding openGives
 gives-no-fields block h = rw (ne-eqb (openAnswer block) 0 h)
 
-flip32-listed : (block out : List ℕ) (e f : ℕ) → T (has flip32Numbers (flip32Answer block out e f))
-unfolding flip32Answer blockTests bodyTests edgeTests flip32Tests
-flip32-listed block out e f = on-list _
+-- a number that is not 0 is on the list without it
+without-0 : (numbers : List ℕ) (n : ℕ) → T (has (0 ∷ numbers) n) → (n ≡ 0 → ⊥) → T (has numbers n)
+unfolding any
+without-0 numbers zero h other = absurd (other refl)
+without-0 numbers (suc n) h other = h
 
-flip23-listed : (block out : List ℕ) (x y z : ℕ) → T (has flip23Numbers (flip23Answer block out x y z))
-unfolding flip23Answer blockTests bodyTests flip23Tests
-flip23-listed block out x y z = on-list _
+other-listed : (block out numbers : List ℕ) → (length numbers ≡ 2 → ⊥) → (length numbers ≡ 3 → ⊥)
+    → T (has (1 ∷ 2 ∷ 3 ∷ 4 ∷ 5 ∷ 6 ∷ 7 ∷ 8 ∷ 21 ∷ []) (flipAnswer block out numbers))
+unfolding flipAnswer blockTests bodyTests
+other-listed block out numbers two three =
+    without-0 _ _ (rw (miscounted (fieldsOf block) numbers two three) (on-list (blockTests block out ++ (21, true) ∷ [])))
+    (never-done block out numbers two three)
+
+pub flip-listed : (block out numbers : List ℕ) → T (has (flipNumbers numbers) (flipAnswer block out numbers))
+unfolding flipAnswer flipTests blockTests bodyTests edgeTests flip32Tests flip23Tests
+flip-listed block out (e ∷ f ∷ []) = on-list _
+flip-listed block out (x ∷ y ∷ z ∷ []) = on-list _
+flip-listed block out [] = other-listed block out [] (λ e. omega arith) (λ e. omega arith)
+flip-listed block out (x ∷ []) = other-listed block out (x ∷ []) (λ e. omega arith) (λ e. omega arith)
+flip-listed block out (x ∷ y ∷ z ∷ w ∷ more) =
+    other-listed block out (x ∷ y ∷ z ∷ w ∷ more) (λ e. omega arith) (λ e. omega arith)
 
 -- the numbers of all calls
 pub numbered : Numbered ours
@@ -44,12 +62,11 @@ numbered = record {
   shown-number = λ block out. number-of (shownAnswer block out);
   seal-number = λ body out. number-of (sealAnswer body out);
   remove-number = remove-number;
-  flip32-number = λ block out e f. number-of (flip32Answer block out e f);
-  flip23-number = λ block out x y z. number-of (flip23Answer block out x y z);
+  flip-number = λ block out numbers. number-of (flipAnswer block out numbers);
 }
 
 pub demand-1 : Demand1 ours
-unfolding ours removeBytes flip32Bytes flip23Bytes
+unfolding ours removeBytes flipBytes
 demand-1 = record {
   numbers = numbered;
   open-listed = λ block. rw (open-number block) (open-list block);
@@ -62,8 +79,6 @@ demand-1 = record {
   remove-listed = λ block out e f. rw (remove-number block out e f) (remove-listed block out e f);
   remove-keeps = λ block out e f h. kept-out (removeAnswer block out e f) _ out (λ q. h (remove-number block out e f ∙ q));
   remove-alone = λ block out e f h. gives-no-ring block out e f (λ q. h (remove-number block out e f ∙ q));
-  flip32-listed = λ block out e f. rw number-of (flip32-listed block out e f);
-  flip32-keeps = λ block out e f h. kept-out (flip32Answer block out e f) _ out (λ q. h (number-of _ ∙ q));
-  flip23-listed = λ block out x y z. rw number-of (flip23-listed block out x y z);
-  flip23-keeps = λ block out x y z h. kept-out (flip23Answer block out x y z) _ out (λ q. h (number-of _ ∙ q));
+  flip-listed = λ block out numbers. rw number-of (flip-listed block out numbers);
+  flip-keeps = λ block out numbers h. kept-out (flipAnswer block out numbers) _ out (λ q. h (number-of _ ∙ q));
 }

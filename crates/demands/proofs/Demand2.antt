@@ -30,8 +30,8 @@ use Rattle.display.proofs.ShownRows.{shown-taken, shown-opens, shown-writes}
 use Rattle.ring.specs.Ring.{Site, siteOf}
 use Rattle.triangulation.specs.Triangulation.{newRows}
 use Rattle.calls.specs.Removing.{removeAnswer, removeGives, removeBytes}
-use Rattle.calls.specs.Flipping.{flip32Answer, flip32Bytes, pairOf, patchAfter23, flip23Answer, flip23Bytes}
-use Rattle.calls.proofs.CallTests.{flips-32, flips-23}
+use Rattle.calls.specs.Flipping.{pairOf, patchAfter23, flipAnswer, flipBytes}
+use Rattle.calls.proofs.CallTests.{each-count, never-done, flips-32, flips-23}
 use Rattle.calls.proofs.SoundEdges.{sound-site}
 use Rattle.tables.specs.RoundAnEdge.{Round}
 use Rattle.tables.proofs.RingReplaced.{way-found}
@@ -45,7 +45,7 @@ use Rattle.accepted.proofs.AcceptedCalls.{remove-accepted, flip32-accepted, fli
 use Rattle.accepted.proofs.AfterRemoval.{page-given}
 use Rattle.demands.specs.Kernels.{ours, asPatch}
 use Rattle.demands.specs.FlipWords.{Faced}
-use Rattle.demands.specs.Demands.{Sealed, RemovalDone, Flip32Done, Flip23Done, Demand2}
+use Rattle.demands.specs.Demands.{Sealed, RemovalDone, Flip32Done, Flip23Done, FlipDone, Demand2}
 use Rattle.demands.proofs.SummaryGiven.{summary-of-block}
 use Rattle.demands.proofs.PremisesMet.{sound-round}
 use Rattle.demands.proofs.RemovalWords.{only-0}
@@ -78,7 +78,7 @@ module _ (block out : List ℕ) (e f : ℕ) where
   }
 
   -- a ring of three has one way, the triangle
-  flip32-done : flip32Answer block out e f ≡ 0 → Flip32Done block out e f (flip32Bytes block out e f)
+  flip32-done : flipAnswer block out (e ∷ f ∷ []) ≡ 0 → Flip32Done block out e f (flipBytes block out (e ∷ f ∷ []))
   unfolding siteOf
   flip32-done h =
       let r = flips-32 block out e f h in
@@ -96,13 +96,13 @@ module _ (block out : List ℕ) (e f : ℕ) where
           round = subst (λ vs. Round rows (min e f) (max e f) true vs) ring
               (subst (λ c. Round rows (min e f) (max e f) c (its .ring)) (r .closed) (sound-round block e f (r .sound)));
         };
-        accepted = subst (Accepted block (flip32Bytes block out e f) (holdsEdge (min e f) (max e f)))
+        accepted = subst (Accepted block (flipBytes block out (e ∷ f ∷ [])) (holdsEdge (min e f) (max e f)))
             (ap (newRows its 1) only ∙ across its u v w ring) (flip32-accepted block out e f h);
       }
 
 -- the face of a 2-3 flip that is done, by words
-flip23-done : (block out : List ℕ) (x y z : ℕ) → flip23Answer block out x y z ≡ 0
-    → Flip23Done block out x y z (flip23Bytes block out x y z)
+flip23-done : (block out : List ℕ) (x y z : ℕ) → flipAnswer block out (x ∷ y ∷ z ∷ []) ≡ 0
+    → Flip23Done block out x y z (flipBytes block out (x ∷ y ∷ z ∷ []))
 unfolding patchAfter23 pairOf
 flip23-done block out x y z h =
     let r = flips-23 block out x y z h in
@@ -126,9 +126,15 @@ flip23-done block out x y z h =
         read = read;
         room = omega (arith, one-more (fieldsOf block) face (two-apexes (fieldsOf block) x y z (pair .a) (pair .b) (right .body .rule) apexes), r .room);
       };
-      accepted = subst (Accepted block (flip23Bytes block out x y z) (holdsFace face))
+      accepted = subst (Accepted block (flipBytes block out (x ∷ y ∷ z ∷ [])) (holdsFace face))
           (new-is (fieldsOf block) x y z (pair .a) (pair .b) (right .body .rule) apexes (f .less) u v w read) (flip23-accepted block out x y z h);
     }
+
+-- a flip that is done has two numbers or three
+flip-done : (block out numbers : List ℕ) → flipAnswer block out numbers ≡ 0 → FlipDone block out numbers (flipBytes block out numbers)
+flip-done block out =
+    each-count (λ numbers. flipAnswer block out numbers ≡ 0 → FlipDone block out numbers (flipBytes block out numbers))
+    (flip32-done block out) (flip23-done block out) (λ numbers two three h. absurd (never-done block out numbers two three h))
 
 -- what is shown of a right block
 shown-done : (block : List ℕ) (out : List Float) → RightBlock block → length out ≡ maxRows
@@ -174,6 +180,5 @@ demand-2 = record {
   seal-right = λ body out size right room. number-of _ ∙ seal-taken body out size right room;
   seal = λ body out h. seal-done body out (sym (number-of _) ∙ h);
   remove = λ block out e f h. removal-done block out e f (sym (remove-number block out e f) ∙ h);
-  flip32 = λ block out e f h. flip32-done block out e f (sym (number-of _) ∙ h);
-  flip23 = λ block out x y z h. flip23-done block out x y z (sym (number-of _) ∙ h);
+  flip = λ block out numbers h. flip-done block out numbers (sym (number-of _) ∙ h);
 }

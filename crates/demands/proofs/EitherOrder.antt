@@ -1,4 +1,4 @@
--- A removal and a 3-2 flip do not depend on the order of the ends, nor a 2-3 flip on the order of its three numbers.
+-- A removal and a flip do not depend on the order of the ends, nor a flip on the order of the three numbers of a face.
 use Prim.Native.Nat.{ℕ, zero, suc, _<_, max}
 use mathlib.Core.Bool.{Bool, not}
 use mathlib.Core.List.{List, [], _∷_, map, foldr, List·Memᴰ, List·Memᴰ·head, List·Memᴰ·tail, List·Memᴰ·not-nil}
@@ -19,8 +19,7 @@ use Rattle.walk.specs.Walk.{smallest}
 use Rattle.ring.proofs.RingInAnyOrder.{site-swap, numbers-swap}
 use Rattle.walk.proofs.TheSmallest.{smallest-in, smallest-le, smallest-is}
 use Rattle.calls.specs.Removing.{removeAnswer, removeBytes, removeGives}
-use Rattle.calls.specs.Flipping.{flip32Answer, flip32Bytes, apexOver, Pair, pairOf, threeRows, patchAfter23, flip23Tests, flip23Answer}
-use Rattle.calls.specs.Flipping.{flip23Bytes}
+use Rattle.calls.specs.Flipping.{apexOver, Pair, pairOf, threeRows, patchAfter23, flip23Tests, flipTests, patchFlipped, flipAnswer, flipBytes}
 use Rattle.tables.proofs.ThreeNumbers.{three-apart, apart-three}
 use Rattle.accepted.proofs.CallsNumbered.{gives-done, gives-refused}
 use Rattle.demands.specs.Kernels.{ours}
@@ -48,13 +47,13 @@ module _ (block out : List ℕ) (e f : ℕ) where
       go zero h = gives-done block out e f (remove-answer-swap ∙ h) ∙ rw (site-swap (fieldsOf block) e f) (sym (gives-done block out f e h))
       go (suc n) h = gives-refused block out e f n (remove-answer-swap ∙ h) ∙ sym (gives-refused block out f e n h)
 
-  pub flip32-answer-swap : flip32Answer block out e f ≡ flip32Answer block out f e
-  unfolding flip32Answer
-  flip32-answer-swap = rw (site-swap (fieldsOf block) e f, edge-swap ringsAlone (siteOf (fieldsOf block) f e) e f)
+  pub ends-answer-swap : flipAnswer block out (e ∷ f ∷ []) ≡ flipAnswer block out (f ∷ e ∷ [])
+  unfolding flipAnswer flipTests
+  ends-answer-swap = rw (site-swap (fieldsOf block) e f, edge-swap ringsAlone (siteOf (fieldsOf block) f e) e f)
 
-  pub flip32-bytes-swap : flip32Bytes block out e f ≡ flip32Bytes block out f e
-  unfolding flip32Bytes
-  flip32-bytes-swap = rw (flip32-answer-swap, site-swap (fieldsOf block) e f)
+  pub ends-bytes-swap : flipBytes block out (e ∷ f ∷ []) ≡ flipBytes block out (f ∷ e ∷ [])
+  unfolding flipBytes patchFlipped
+  ends-bytes-swap = rw (ends-answer-swap, site-swap (fieldsOf block) e f)
 
 -- ---- the face
 
@@ -151,27 +150,27 @@ turned x y z =
         apart-three y z x (record { xy = k .yz; xz = λ e. k .xy (sym e); yz = λ e. k .xz (sym e) })
 
 module _ (block out : List ℕ) (x y z : ℕ) where
-  flip23-answer-swap : flip23Answer block out x y z ≡ flip23Answer block out y x z
-  unfolding flip23Answer
-  flip23-answer-swap = rw (tests-over _ _ (swapped x y z) (fieldsOf block))
+  face-answer-swap : flipAnswer block out (x ∷ y ∷ z ∷ []) ≡ flipAnswer block out (y ∷ x ∷ z ∷ [])
+  unfolding flipAnswer flipTests
+  face-answer-swap = rw (tests-over _ _ (swapped x y z) (fieldsOf block))
 
-  flip23-answer-turn : flip23Answer block out x y z ≡ flip23Answer block out y z x
-  unfolding flip23Answer
-  flip23-answer-turn = rw (tests-over _ _ (turned x y z) (fieldsOf block))
+  face-answer-turn : flipAnswer block out (x ∷ y ∷ z ∷ []) ≡ flipAnswer block out (y ∷ z ∷ x ∷ [])
+  unfolding flipAnswer flipTests
+  face-answer-turn = rw (tests-over _ _ (turned x y z) (fieldsOf block))
 
-  flip23-bytes-swap : flip23Bytes block out x y z ≡ flip23Bytes block out y x z
-  unfolding flip23Bytes
-  flip23-bytes-swap = rw (flip23-answer-swap, patch-over _ _ (swapped x y z) (fieldsOf block))
+  face-bytes-swap : flipBytes block out (x ∷ y ∷ z ∷ []) ≡ flipBytes block out (y ∷ x ∷ z ∷ [])
+  unfolding flipBytes patchFlipped
+  face-bytes-swap = rw (face-answer-swap, patch-over _ _ (swapped x y z) (fieldsOf block))
 
-  flip23-bytes-turn : flip23Bytes block out x y z ≡ flip23Bytes block out y z x
-  unfolding flip23Bytes
-  flip23-bytes-turn = rw (flip23-answer-turn, patch-over _ _ (turned x y z) (fieldsOf block))
+  face-bytes-turn : flipBytes block out (x ∷ y ∷ z ∷ []) ≡ flipBytes block out (y ∷ z ∷ x ∷ [])
+  unfolding flipBytes patchFlipped
+  face-bytes-turn = rw (face-answer-turn, patch-over _ _ (turned x y z) (fieldsOf block))
 
 pub either-order : EitherOrder ours
 unfolding ours
 either-order = record {
   remove = λ block out e f. rw (remove-gives-swap block out e f, remove-bytes-swap block out e f);
-  flip32 = λ block out e f. rw (flip32-answer-swap block out e f, flip32-bytes-swap block out e f);
-  exchanged = λ block out x y z. rw (flip23-answer-swap block out x y z, flip23-bytes-swap block out x y z);
-  turned = λ block out x y z. rw (flip23-answer-turn block out x y z, flip23-bytes-turn block out x y z);
+  flip-ends = λ block out e f. rw (ends-answer-swap block out e f, ends-bytes-swap block out e f);
+  exchanged = λ block out x y z. rw (face-answer-swap block out x y z, face-bytes-swap block out x y z);
+  turned = λ block out x y z. rw (face-answer-turn block out x y z, face-bytes-turn block out x y z);
 }

@@ -1,4 +1,4 @@
--- The refusals of a 2-3 flip are given exactly when their words are true of the block. At most two rows hold a face, and the apexes that the
+-- The refusals of a flip with three numbers are given exactly when their words are true of the block. At most two rows hold a face, and the apexes that the
 -- flip finds are those of the words.
 use Prim.Native.Nat.{ℕ, _+_, _≤_, _<_}
 use mathlib.Core.Bool.{Bool, false, not, _&&_}
@@ -23,7 +23,7 @@ use Rattle.answers.specs.Answers.{Tests, firstRefusal}
 use Rattle.block.proofs.RightBlocks.{opens}
 use Rattle.answers.proofs.ByNumber.{testOf, before, passes, stops}
 use Rattle.ring.specs.Ring.{numbersWrong}
-use Rattle.calls.specs.Flipping.{Pair, pairOf, patchAfter23, flip23Tests, flip23Answer}
+use Rattle.calls.specs.Flipping.{Pair, pairOf, patchAfter23, flip23Tests, flipAnswer}
 use Rattle.calls.proofs.CallTests.{flip23-left}
 use Rattle.tables.specs.FlipRows.{facing, OneApex, after23}
 use Rattle.tables.proofs.FacingRows.{face-apart}
@@ -53,7 +53,7 @@ module _ (block out : List ℕ) (x y z : ℕ) (right : RightBlock block) (size :
   abbrev tests : Tests
   tests = flip23Tests patch face
 
-  is : flip23Answer block out x y z ≡ firstRefusal tests
+  is : flipAnswer block out (x ∷ y ∷ z ∷ []) ≡ firstRefusal tests
   is = flip23-left block out x y z (opens block right) size
 
   points-fit : ThreePoints block x y z → numbersWrong points face ≡ false
@@ -78,7 +78,7 @@ module _ (block out : List ℕ) (x y z : ℕ) (right : RightBlock block) (size :
         apart = face-apart points face h;
       }
 
-  tells-9 : (flip23Answer block out x y z ≡ 9) ↔ (ThreePoints block x y z → ⊥)
+  tells-9 : (flipAnswer block out (x ∷ y ∷ z ∷ []) ≡ 9) ↔ (ThreePoints block x y z → ⊥)
   unfolding flip23Tests once before testOf firstRefusal every
   tells-9 = unless (numbersWrong points face) (exactly 9 tests tt tt tt is refl) points-fit fit-points
 
@@ -93,20 +93,20 @@ module _ (block out : List ℕ) (x y z : ℕ) (right : RightBlock block) (size :
     unfolding flip23Tests pairOf before firstRefusal
     front-18 two = rw (points-fit three, ne-eqb rows-over 0 (λ none. omega arith), ne-eqb rows-over 1 (λ one. omega arith))
 
-    tells-10 : (flip23Answer block out x y z ≡ 10) ↔ (rows-over ≡ 0)
+    tells-10 : (flipAnswer block out (x ∷ y ∷ z ∷ []) ≡ 10) ↔ (rows-over ≡ 0)
     unfolding flip23Tests pairOf once before testOf firstRefusal every
     tells-10 =
         let (to, from) = exactly 10 tests tt tt tt is (rw (points-fit three)) in
         (λ h. eqb-true rows-over 0 (to h), λ none. from (eq-eqb rows-over 0 none))
 
-    tells-11 : (flip23Answer block out x y z ≡ 11) ↔ (rows-over ≡ 1)
+    tells-11 : (flipAnswer block out (x ∷ y ∷ z ∷ []) ≡ 11) ↔ (rows-over ≡ 1)
     unfolding flip23Tests pairOf once testOf every
     tells-11 = (
       λ h. eqb-true rows-over 1 (told 11 tests tt tt (sym is ∙ h) .1),
       λ one. is ∙ stops 11 tests tt (front-11 (λ none. omega arith)) (eq-eqb rows-over 1 one),
     )
 
-    tells-18 : (flip23Answer block out x y z ≡ 18) ↔ ((a : ℕ) × OneApex (patch .rows) x y z a)
+    tells-18 : (flipAnswer block out (x ∷ y ∷ z ∷ []) ≡ 18) ↔ ((a : ℕ) × OneApex (patch .rows) x y z a)
     unfolding flip23Tests pairOf once before testOf every
     tells-18 = (
       λ h.
@@ -155,7 +155,7 @@ module _ (block out : List ℕ) (x y z a b : ℕ) (given : Faced block out x y z
         apart = face-different its x y z a b (given .right .body .rule) (given .apexes);
       }
 
-  answer-is : flip23Answer block out x y z ≡ firstRefusal theirs
+  answer-is : flipAnswer block out (x ∷ y ∷ z ∷ []) ≡ firstRefusal theirs
   answer-is = is block out x y z (given .right) (given .right-length)
 
   -- 9 to 18 are passed
@@ -169,7 +169,7 @@ module _ (block out : List ℕ) (x y z a b : ℕ) (given : Faced block out x y z
         ne-eqb (pair .a) (pair .b) (λ e. two .apart (omega (arith, two .low, two .high))),
       )
 
-  tells-14 : (flip23Answer block out x y z ≡ 14) ↔ (maxRows < length (its .rows) + 1)
+  tells-14 : (flipAnswer block out (x ∷ y ∷ z ∷ []) ≡ 14) ↔ (maxRows < length (its .rows) + 1)
   unfolding flip23Tests once testOf every
   tells-14 =
       let (to, from) = exactly 14 theirs tt tt tt answer-is front-14 in (
@@ -178,7 +178,7 @@ module _ (block out : List ℕ) (x y z a b : ℕ) (given : Faced block out x y z
       )
 
   left-15 : length (its .rows) + 1 ≤ maxRows
-      → flip23Answer block out x y z ≡ firstRefusal ((15, not (keepsMeshRule (length (its .points)) table)) ∷ [])
+      → flipAnswer block out (x ∷ y ∷ z ∷ []) ≡ firstRefusal ((15, not (keepsMeshRule (length (its .points)) table)) ∷ [])
   unfolding flip23Tests past testOf every
   left-15 room =
       answer-is ∙ goes-past 14 theirs tt front-14 (le-ltb maxRows (length table) (omega (arith, one-more its list two)))
@@ -187,7 +187,7 @@ module _ (block out : List ℕ) (x y z a b u v w : ℕ) (given : Roomy block out
   abbrev rule-kept : Bool
   rule-kept = keepsMeshRule (length (fieldsOf block .points)) (after23 (fieldsOf block .rows) (x ∷ y ∷ z ∷ []) a b u v w)
 
-  left-rule : flip23Answer block out x y z ≡ firstRefusal ((15, not rule-kept) ∷ [])
+  left-rule : flipAnswer block out (x ∷ y ∷ z ∷ []) ≡ firstRefusal ((15, not rule-kept) ∷ [])
   unfolding patchAfter23 pairOf
   left-rule =
       left-15 block out x y z a b (given .faced) (given .room)
@@ -196,11 +196,11 @@ module _ (block out : List ℕ) (x y z a b u v w : ℕ) (given : Roomy block out
       firstRefusal ((15, not (keepsMeshRule (length (fieldsOf block .points)) table)) ∷ []))
       (new-is (fieldsOf block) x y z a b (given .faced .right .body .rule) (given .faced .apexes) (given .smaller) u v w (given .read))
 
-  tells-15 : (flip23Answer block out x y z ≡ 15) ↔ (T rule-kept → ⊥)
-  tells-15 = rule-15 (flip23Answer block out x y z) rule-kept left-rule
+  tells-15 : (flipAnswer block out (x ∷ y ∷ z ∷ []) ≡ 15) ↔ (T rule-kept → ⊥)
+  tells-15 = rule-15 (flipAnswer block out (x ∷ y ∷ z ∷ [])) rule-kept left-rule
 
-  tells-0 : (flip23Answer block out x y z ≡ 0) ↔ T rule-kept
-  tells-0 = rule-0 (flip23Answer block out x y z) rule-kept left-rule
+  tells-0 : (flipAnswer block out (x ∷ y ∷ z ∷ []) ≡ 0) ↔ T rule-kept
+  tells-0 = rule-0 (flipAnswer block out (x ∷ y ∷ z ∷ [])) rule-kept left-rule
 
 pub tells-23 : Tells23 ours
 unfolding ours

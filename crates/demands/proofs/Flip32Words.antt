@@ -1,4 +1,4 @@
--- The refusals of a 3-2 flip are given exactly when their words are true of the block: 9, 10 and 12 as of every call on an edge, 11 of every
+-- The refusals of a flip with two numbers are given exactly when their words are true of the block: 9, 10 and 12 as of every call on an edge, 11 of every
 -- open case; and a ring of three has one way to be triangulated.
 use Prim.Native.Nat.{ℕ, min, max}
 use mathlib.Core.Bool.{Bool, true, false, not, _&&_, _||_}
@@ -26,8 +26,8 @@ use Rattle.triangulation.specs.Triangulation.{side, cut, span, triangles, closi
 use Rattle.triangulation.specs.Admissible.{admissible, pieceAdmissible, endFaces, barred}
 use Rattle.triangulation.proofs.AdmissibleByFaces.{ring-admissible}
 use Rattle.calls.specs.Removing.{blockTests, noWay, Sound}
-use Rattle.calls.specs.Flipping.{flip32Tests, flip32Answer}
-use Rattle.calls.proofs.CallTests.{reached, flip32-left}
+use Rattle.calls.specs.Flipping.{flip32Tests, flipAnswer}
+use Rattle.calls.proofs.CallTests.{reached, flip-two, flip32-left}
 use Rattle.calls.proofs.SoundEdges.{sound-site}
 use Rattle.tables.specs.RoundAnEdge.{Round, AllClose, TwoCircles}
 use Rattle.tables.specs.FlipRows.{off, after32}
@@ -58,9 +58,8 @@ module _ (block out : List ℕ) (e f : ℕ) (held : Held block out e f) where
   abbrev theirs : Tests
   theirs = edgeTests ringsAlone its e f ++ flip32Tests its
 
-  is : flip32Answer block out e f ≡ firstRefusal theirs
-  unfolding flip32Answer
-  is = held-left ringsAlone block out e f (flip32Tests its) held
+  is : flipAnswer block out (e ∷ f ∷ []) ≡ firstRefusal theirs
+  is = flip-two block out e f ∙ held-left ringsAlone block out e f (flip32Tests its) held
 
   ends-apart : min e f ≡ max e f → ⊥
   ends-apart i = held .ends .apart (omega arith)
@@ -73,27 +72,28 @@ module _ (block out : List ℕ) (e f : ℕ) (held : Held block out e f) where
   unfolding siteOf
   words-closed = words-close (min e f) (max e f) (length (patch .points)) (patch .rows) (held .right .body .rule) ends-apart
 
-  tells-11 : (flip32Answer block out e f ≡ 11) ↔ (AllClose (patch .rows) (min e f) (max e f) → ⊥)
+  tells-11 : (flipAnswer block out (e ∷ f ∷ []) ≡ 11) ↔ (AllClose (patch .rows) (min e f) (max e f) → ⊥)
   unfolding edgeTests flip32Tests linkOpen whole once testOf every
   tells-11 =
       let told = exactly 11 theirs tt tt tt is (front-11 ringsAlone block out e f (flip32Tests its) held) in
       unless (linkOpen ringsAlone its) told (λ all. open-is (its .closed) (whole its) ∙ ap not (words-closed all))
       (λ q. closed-words (not-false (its .closed) (sym (open-is (its .closed) (whole its)) ∙ q)))
 
-  flip-tells-12 : (flip32Answer block out e f ≡ 12)
+  flip-tells-12 : (flipAnswer block out (e ∷ f ∷ []) ≡ 12)
       ↔ (AllClose (patch .rows) (min e f) (max e f) × TwoCircles (patch .rows) (min e f) (max e f))
-  unfolding flip32Answer flip32Tests every
-  flip-tells-12 = tells-12 block out e f held ringsAlone (flip32Tests its) tt tt
+  unfolding flip32Tests every
+  flip-tells-12 = rw (flip-two block out e f) (tells-12 block out e f held ringsAlone (flip32Tests its) tt tt)
 
   front-not-13 : T (unlike 13 (blockTests block out ++ edgeTests ringsAlone its e f))
   unfolding blockTests bodyTests edgeTests every
   front-not-13 = tt
 
-  tells-13 : (flip32Answer block out e f ≡ 13) ↔ NotThree (patch .rows) (min e f) (max e f)
-  unfolding flip32Answer flip32Tests once before testOf firstRefusal every
+  tells-13 : (flipAnswer block out (e ∷ f ∷ []) ≡ 13) ↔ NotThree (patch .rows) (min e f) (max e f)
+  unfolding flip32Tests once before testOf firstRefusal every
   tells-13 = (
     λ h.
-        let (sound, size, last, closed) = reached ringsAlone block out e f (flip32Tests its) 13 front-not-13 h in (
+        let (sound, size, last, closed) = reached ringsAlone block out e f (flip32Tests its) 13 front-not-13
+        (sym (flip-two block out e f) ∙ h) in (
           its .ring,
           subst (λ c. Round (patch .rows) (min e f) (max e f) c (its .ring)) (closed refl) (sound-round block e f sound),
           eqb-false (m its) minRing (not-true _ (told 13 (flip32Tests its) tt tt last .1)),
@@ -133,7 +133,7 @@ module _ (block out : List ℕ) (e f u v w : ℕ) (given : RingOfThree block out
   unfolding noWay any admissible tableAfter newRows twoRows triangles span waysWithin flatMap numbersFrom
   way-is = ap not (or-false (keepsMeshRule points after))
 
-  left-15 : flip32Answer block out e f ≡ firstRefusal ((15, not (keepsMeshRule points after)) ∷ [])
+  left-15 : flipAnswer block out (e ∷ f ∷ []) ≡ firstRefusal ((15, not (keepsMeshRule points after)) ∷ [])
   unfolding flip32Tests
   left-15 =
       flip32-left block out e f sound (ap (λ (s : Site). s .closed) sited) (given .right-length)
@@ -151,13 +151,13 @@ module _ (block out : List ℕ) (e f u v w : ℕ) (given : RingOfThree block out
       ∙ and-true (not (used || false))
       ∙ ap not (or-false used)
 
-  flip-tells-15 : (flip32Answer block out e f ≡ 15) ↔ (T (keepsMeshRule points after) → ⊥)
-  flip-tells-15 = rule-15 (flip32Answer block out e f) (keepsMeshRule points after) left-15
+  flip-tells-15 : (flipAnswer block out (e ∷ f ∷ []) ≡ 15) ↔ (T (keepsMeshRule points after) → ⊥)
+  flip-tells-15 = rule-15 (flipAnswer block out (e ∷ f ∷ [])) (keepsMeshRule points after) left-15
 
-  flip-tells-0 : (flip32Answer block out e f ≡ 0) ↔ T (keepsMeshRule points after)
-  flip-tells-0 = rule-0 (flip32Answer block out e f) (keepsMeshRule points after) left-15
+  flip-tells-0 : (flipAnswer block out (e ∷ f ∷ []) ≡ 0) ↔ T (keepsMeshRule points after)
+  flip-tells-0 = rule-0 (flipAnswer block out (e ∷ f ∷ [])) (keepsMeshRule points after) left-15
 
-  by-triangle : (flip32Answer block out e f ≡ 15) ↔ T (any (usesEitherWay (u, v, w)) (off rows (min e f) (max e f)))
+  by-triangle : (flipAnswer block out (e ∷ f ∷ []) ≡ 15) ↔ T (any (usesEitherWay (u, v, w)) (off rows (min e f) (max e f)))
   by-triangle =
       let used = any (usesEitherWay (u, v, w)) (off rows (min e f) (max e f)) in (
         λ h. twice used (λ k. flip-tells-15 .0 h (subst T (sym keeps-is) k)),
@@ -172,14 +172,14 @@ module _ (block out : List ℕ) (e f u v w : ℕ) (given : RingOfThree block out
 
 -- 9 and 10
 module _ (block out : List ℕ) (e f : ℕ) (right : RightBlock block) (size : length out ≡ blockBytes) where
-  flip-tells-9 : (flip32Answer block out e f ≡ 9) ↔ (TwoPoints block e f → ⊥)
-  unfolding flip32Answer flip32Tests every
-  flip-tells-9 = tells-9 ringsAlone block out e f (flip32Tests (siteOf (fieldsOf block) e f)) tt right size tt
+  flip-tells-9 : (flipAnswer block out (e ∷ f ∷ []) ≡ 9) ↔ (TwoPoints block e f → ⊥)
+  unfolding flip32Tests every
+  flip-tells-9 = rw (flip-two block out e f) (tells-9 ringsAlone block out e f (flip32Tests (siteOf (fieldsOf block) e f)) tt right size tt)
 
   flip-tells-10 : TwoPoints block e f
-      → (flip32Answer block out e f ≡ 10) ↔ T (not (any (holdsEdge (min e f) (max e f)) (fieldsOf block .rows)))
-  unfolding flip32Answer flip32Tests every
-  flip-tells-10 = tells-10 ringsAlone block out e f (flip32Tests (siteOf (fieldsOf block) e f)) tt right size tt
+      → (flipAnswer block out (e ∷ f ∷ []) ≡ 10) ↔ T (not (any (holdsEdge (min e f) (max e f)) (fieldsOf block .rows)))
+  unfolding flip32Tests every
+  flip-tells-10 = rw (flip-two block out e f) (tells-10 ringsAlone block out e f (flip32Tests (siteOf (fieldsOf block) e f)) tt right size tt)
 
 pub tells-32 : Tells32 ours
 unfolding ours

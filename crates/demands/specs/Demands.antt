@@ -25,11 +25,11 @@ use Rattle.triangulation.specs.Best.{chosen}
 use Rattle.calls.specs.declared.Removal.the-variants.{Done}
 use Rattle.calls.specs.declared.Removed.{Removed}
 use Rattle.calls.specs.Removing.{removeAnswer}
-use Rattle.calls.specs.Flipping.{flip32Answer, flip23Answer}
+use Rattle.calls.specs.Flipping.{flipAnswer}
 use Rattle.tables.specs.FlipRows.{new32, new23}
-use Rattle.accepted.specs.CallNumbers.{openNumbers, sealNumbers, removeNumbers, flip32Numbers, flip23Numbers}
+use Rattle.accepted.specs.CallNumbers.{openNumbers, sealNumbers, removeNumbers, flipNumbers}
 use Rattle.accepted.specs.Accepted.{Accepted}
-use Rattle.demands.specs.Kernels.{Kernel, opens, summarises, shows, seals, removes, flips32, flips23, asPatch}
+use Rattle.demands.specs.Kernels.{Kernel, opens, summarises, shows, seals, removes, flips, asPatch}
 use Rattle.demands.specs.Premises.{edgeAt, Premises}
 use Rattle.demands.specs.FlipWords.{RingOfThree, Roomy}
 use Rattle.demands.specs.Summaries.{Summarises}
@@ -41,15 +41,14 @@ use Rattle.demands.specs.TriangleSets.{tableBy, Way, NoneBetter, AsGoodA
 -- came with.
 
 -- Each call's number is the one that the table of answers gives, tested from the top. What the table says of a block is said again, without
--- a test, in Words of a removal and in FlipWords of both flips.
+-- a test, in Words of a removal and in FlipWords of a flip.
 pub record Numbered (k : Kernel) : Type 0 where
   pub open-number : (block : List ℕ) → opens k block ≡ openAnswer block
   pub summary-number : (block : List ℕ) → summarises k block ≡ openAnswer block
   pub shown-number : (block : List ℕ) (out : List Float) → shows k block out ≡ shownAnswer block out
   pub seal-number : (body out : List ℕ) → seals k body out ≡ sealAnswer body out
   pub remove-number : (block out : List ℕ) (e f : ℕ) → removes k block out e f ≡ removeAnswer block out e f
-  pub flip32-number : (block out : List ℕ) (e f : ℕ) → flips32 k block out e f ≡ flip32Answer block out e f
-  pub flip23-number : (block out : List ℕ) (x y z : ℕ) → flips23 k block out x y z ≡ flip23Answer block out x y z
+  pub flip-number : (block out numbers : List ℕ) → flips k block out numbers ≡ flipAnswer block out numbers
 
 -- Each call's number is the table's and on the call's list. Any number but 0 leaves the output as it came, and beside it stand no fields and
 -- no ring.
@@ -65,18 +64,16 @@ pub record Demand1 (k : Kernel) : Type 0 where
   pub remove-listed : (block out : List ℕ) (e f : ℕ) → T (has removeNumbers (removes k block out e f))
   pub remove-keeps : (block out : List ℕ) (e f : ℕ) → (removes k block out e f ≡ 0 → ⊥) → k .remove block out e f .1 ≡ out
   pub remove-alone : (block out : List ℕ) (e f : ℕ) → (removes k block out e f ≡ 0 → ⊥) → k .remove block out e f .0 .ring ≡ ringWith []
-  pub flip32-listed : (block out : List ℕ) (e f : ℕ) → T (has flip32Numbers (flips32 k block out e f))
-  pub flip32-keeps : (block out : List ℕ) (e f : ℕ) → (flips32 k block out e f ≡ 0 → ⊥) → k .flip32 block out e f .1 ≡ out
-  pub flip23-listed : (block out : List ℕ) (x y z : ℕ) → T (has flip23Numbers (flips23 k block out x y z))
-  pub flip23-keeps : (block out : List ℕ) (x y z : ℕ) → (flips23 k block out x y z ≡ 0 → ⊥) → k .flip23 block out x y z .1 ≡ out
+  pub flip-listed : (block out numbers : List ℕ) → T (has (flipNumbers numbers) (flips k block out numbers))
+  pub flip-keeps : (block out numbers : List ℕ) → (flips k block out numbers ≡ 0 → ⊥) → k .flip block out numbers .1 ≡ out
 
 -- ---- Demand 2
 -- A block is read and written by the layout, one the inverse of the other, and opening hands over the fields of a block that is right and of
 -- no other; a right body is sealed, and nothing else. The summary and what is shown of each row are those of the block. A call that is done
 -- leaves a right block: the points and the rows that the edge or the face does not touch are as they were, behind them stand the new rows in
 -- their order, and the signed volumes add up to what they did. A removal is done only under the third demand's premises, and returns the
--- page row of both blocks and the ring; a 3-2 flip only of an edge in a closed ring of three, and a 2-3 flip only of a face in two rows with
--- different apexes.
+-- page row of both blocks and the ring; a flip is done only with two numbers, of an edge in a closed ring of three, or with three, of a face
+-- in two rows with different apexes.
 
 -- Sealing that is done: a right body of 508 bytes and an output block of 512, which is a right block with the body's fields afterwards.
 pub record Sealed (body out output : List ℕ) : Type 0 where
@@ -120,6 +117,14 @@ pub record Flip23Done (block out : List ℕ) (x y z : ℕ) (output : List ℕ) :
   pub accepted : let face = x ∷ y ∷ z ∷ [] in
       Accepted block output (holdsFace face) (new23 (fieldsOf block .rows) face a b u v w)
 
+-- a flip that is done: with two numbers a 3-2 flip, with three a 2-3 flip, and with any other count none is
+abbrev pub FlipDone : List ℕ → List ℕ → List ℕ → List ℕ → Type 0
+FlipDone block out [] output = ⊥
+FlipDone block out (x ∷ []) output = ⊥
+FlipDone block out (e ∷ f ∷ []) output = Flip32Done block out e f output
+FlipDone block out (x ∷ y ∷ z ∷ []) output = Flip23Done block out x y z output
+FlipDone block out (x ∷ y ∷ z ∷ w ∷ more) output = ⊥
+
 -- Opening, the summary and what is shown of a right block, the layout there and back, and what each call that writes leaves with 0.
 pub record Demand2 (k : Kernel) : Type 0 where
   pub read-fields : (block : List ℕ) → RightBlock block → k .read block ≡ record { answer = Fine; fields = openFields block }
@@ -136,9 +141,7 @@ pub record Demand2 (k : Kernel) : Type 0 where
   pub seal : (body out : List ℕ) → seals k body out ≡ 0 → Sealed body out (k .seal body out .1)
   pub remove : (block out : List ℕ) (e f : ℕ) → removes k block out e f ≡ 0
       → RemovalDone block out e f (k .remove block out e f .0) (k .remove block out e f .1)
-  pub flip32 : (block out : List ℕ) (e f : ℕ) → flips32 k block out e f ≡ 0 → Flip32Done block out e f (k .flip32 block out e f .1)
-  pub flip23 : (block out : List ℕ) (x y z : ℕ) → flips23 k block out x y z ≡ 0
-      → Flip23Done block out x y z (k .flip23 block out x y z .1)
+  pub flip : (block out numbers : List ℕ) → flips k block out numbers ≡ 0 → FlipDone block out numbers (k .flip block out numbers .1)
 
 -- ---- Demand 3
 -- Under the premises, of a ring and of a flat chain alike: a removal answers 16 exactly if, whichever way it is cut, some new tetrahedron is

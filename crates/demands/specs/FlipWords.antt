@@ -1,5 +1,5 @@
--- The refusals of both flips by their words, as statements about any kernel: where no number before it is given, each is given exactly when
--- its words are true of the block. That a flip gives no other numbers stands in the first demand.
+-- The refusals of a flip by their words, as statements about any kernel: where no number before it is given, each is given exactly when its
+-- words are true of the block and the numbers. That a flip gives no other numbers stands in the first demand.
 use Prim.Native.Nat.{ℕ, _+_, _≤_, _<_, min, max}
 use mathlib.Core.Bool.{true, not}
 use mathlib.Core.List.{List, [], _∷_}
@@ -17,9 +17,18 @@ use Rattle.ring.specs.Ring.{minRing}
 use Rattle.tables.specs.RoundAnEdge.{Round, AllClose, TwoCircles}
 use Rattle.tables.specs.FlipRows.{KeepsRule, off, after32, facing, OneApex, Apexes, ReadFrom, after23}
 use Rattle.demands.specs.Premises.{TwoPoints, Held}
-use Rattle.demands.specs.Kernels.{Kernel, flips32, flips23}
+use Rattle.demands.specs.Kernels.{Kernel, opens, flips}
 
--- ---- the 3-2 flip
+-- ---- how many numbers
+
+-- 21 exactly where neither two numbers nor three are given, whatever they are; a block that is not right has the number of opening it first.
+pub record Tells21 (k : Kernel) : Type 0 where
+  pub block-first : (block out numbers : List ℕ) → (RightBlock block → ⊥) → length out ≡ blockBytes
+      → flips k block out numbers ≡ opens k block
+  pub twenty-one : (block out numbers : List ℕ) → RightBlock block → length out ≡ blockBytes
+      → (flips k block out numbers ≡ 21) ↔ ((length numbers ≡ 2 → ⊥) × (length numbers ≡ 3 → ⊥))
+
+-- ---- two numbers: the 3-2 flip
 
 -- a closed ring, but not of three points
 abbrev pub NotThree : List Row → ℕ → ℕ → Type 0
@@ -35,26 +44,26 @@ pub record RingOfThree (block out : List ℕ) (e f u v w : ℕ) : Type 0 where
 -- is where one of the other rows has the triangle for a face; and otherwise 0.
 pub record Tells32 (k : Kernel) : Type 0 where
   pub nine : (block out : List ℕ) (e f : ℕ) → RightBlock block → length out ≡ blockBytes
-      → (flips32 k block out e f ≡ 9) ↔ (TwoPoints block e f → ⊥)
+      → (flips k block out (e ∷ f ∷ []) ≡ 9) ↔ (TwoPoints block e f → ⊥)
   pub ten : (block out : List ℕ) (e f : ℕ) → RightBlock block → length out ≡ blockBytes → TwoPoints block e f
-      → (flips32 k block out e f ≡ 10) ↔ T (not (any (holdsEdge (min e f) (max e f)) (fieldsOf block .rows)))
+      → (flips k block out (e ∷ f ∷ []) ≡ 10) ↔ T (not (any (holdsEdge (min e f) (max e f)) (fieldsOf block .rows)))
   pub eleven : (block out : List ℕ) (e f : ℕ) → Held block out e f
-      → (flips32 k block out e f ≡ 11) ↔ (AllClose (fieldsOf block .rows) (min e f) (max e f) → ⊥)
+      → (flips k block out (e ∷ f ∷ []) ≡ 11) ↔ (AllClose (fieldsOf block .rows) (min e f) (max e f) → ⊥)
   pub twelve : (block out : List ℕ) (e f : ℕ) → Held block out e f
       → let rows = fieldsOf block .rows in
-      (flips32 k block out e f ≡ 12) ↔ (AllClose rows (min e f) (max e f) × TwoCircles rows (min e f) (max e f))
+      (flips k block out (e ∷ f ∷ []) ≡ 12) ↔ (AllClose rows (min e f) (max e f) × TwoCircles rows (min e f) (max e f))
   pub thirteen : (block out : List ℕ) (e f : ℕ) → Held block out e f
-      → (flips32 k block out e f ≡ 13) ↔ NotThree (fieldsOf block .rows) (min e f) (max e f)
+      → (flips k block out (e ∷ f ∷ []) ≡ 13) ↔ NotThree (fieldsOf block .rows) (min e f) (max e f)
   pub fifteen : (block out : List ℕ) (e f u v w : ℕ) → RingOfThree block out e f u v w
       → let patch = fieldsOf block in
-      (flips32 k block out e f ≡ 15) ↔ (KeepsRule patch (after32 (patch .rows) (min e f) (max e f) u v w) → ⊥)
+      (flips k block out (e ∷ f ∷ []) ≡ 15) ↔ (KeepsRule patch (after32 (patch .rows) (min e f) (max e f) u v w) → ⊥)
   pub fifteen-by-triangle : (block out : List ℕ) (e f u v w : ℕ) → RingOfThree block out e f u v w
-      → (flips32 k block out e f ≡ 15) ↔ T (any (usesEitherWay (u, v, w)) (off (fieldsOf block .rows) (min e f) (max e f)))
+      → (flips k block out (e ∷ f ∷ []) ≡ 15) ↔ T (any (usesEitherWay (u, v, w)) (off (fieldsOf block .rows) (min e f) (max e f)))
   pub done : (block out : List ℕ) (e f u v w : ℕ) → RingOfThree block out e f u v w
       → let patch = fieldsOf block in
-      (flips32 k block out e f ≡ 0) ↔ KeepsRule patch (after32 (patch .rows) (min e f) (max e f) u v w)
+      (flips k block out (e ∷ f ∷ []) ≡ 0) ↔ KeepsRule patch (after32 (patch .rows) (min e f) (max e f) u v w)
 
--- ---- the 2-3 flip
+-- ---- three numbers: the 2-3 flip
 
 -- three different points of the block
 pub record ThreePoints (block : List ℕ) (x y z : ℕ) : Type 0 where
@@ -80,18 +89,18 @@ pub record Roomy (block out : List ℕ) (x y z a b u v w : ℕ) : Type 0 where
 -- afterwards would break the mesh rule, and otherwise 0.
 pub record Tells23 (k : Kernel) : Type 0 where
   pub nine : (block out : List ℕ) (x y z : ℕ) → RightBlock block → length out ≡ blockBytes
-      → (flips23 k block out x y z ≡ 9) ↔ (ThreePoints block x y z → ⊥)
+      → (flips k block out (x ∷ y ∷ z ∷ []) ≡ 9) ↔ (ThreePoints block x y z → ⊥)
   pub ten : (block out : List ℕ) (x y z : ℕ) → RightBlock block → length out ≡ blockBytes → ThreePoints block x y z
-      → (flips23 k block out x y z ≡ 10) ↔ (facing (fieldsOf block .rows) x y z ≡ 0)
+      → (flips k block out (x ∷ y ∷ z ∷ []) ≡ 10) ↔ (facing (fieldsOf block .rows) x y z ≡ 0)
   pub eleven : (block out : List ℕ) (x y z : ℕ) → RightBlock block → length out ≡ blockBytes → ThreePoints block x y z
-      → (flips23 k block out x y z ≡ 11) ↔ (facing (fieldsOf block .rows) x y z ≡ 1)
+      → (flips k block out (x ∷ y ∷ z ∷ []) ≡ 11) ↔ (facing (fieldsOf block .rows) x y z ≡ 1)
   pub eighteen : (block out : List ℕ) (x y z : ℕ) → RightBlock block → length out ≡ blockBytes → ThreePoints block x y z
-      → (flips23 k block out x y z ≡ 18) ↔ ((a : ℕ) × OneApex (fieldsOf block .rows) x y z a)
+      → (flips k block out (x ∷ y ∷ z ∷ []) ≡ 18) ↔ ((a : ℕ) × OneApex (fieldsOf block .rows) x y z a)
   pub fourteen : (block out : List ℕ) (x y z a b : ℕ) → Faced block out x y z a b
-      → (flips23 k block out x y z ≡ 14) ↔ (maxRows < length (fieldsOf block .rows) + 1)
+      → (flips k block out (x ∷ y ∷ z ∷ []) ≡ 14) ↔ (maxRows < length (fieldsOf block .rows) + 1)
   pub fifteen : (block out : List ℕ) (x y z a b u v w : ℕ) → Roomy block out x y z a b u v w
       → let patch = fieldsOf block in
-      (flips23 k block out x y z ≡ 15) ↔ (KeepsRule patch (after23 (patch .rows) (x ∷ y ∷ z ∷ []) a b u v w) → ⊥)
+      (flips k block out (x ∷ y ∷ z ∷ []) ≡ 15) ↔ (KeepsRule patch (after23 (patch .rows) (x ∷ y ∷ z ∷ []) a b u v w) → ⊥)
   pub done : (block out : List ℕ) (x y z a b u v w : ℕ) → Roomy block out x y z a b u v w
       → let patch = fieldsOf block in
-      (flips23 k block out x y z ≡ 0) ↔ KeepsRule patch (after23 (patch .rows) (x ∷ y ∷ z ∷ []) a b u v w)
+      (flips k block out (x ∷ y ∷ z ∷ []) ≡ 0) ↔ KeepsRule patch (after23 (patch .rows) (x ∷ y ∷ z ∷ []) a b u v w)

@@ -16,7 +16,7 @@ use Rattle.calls.specs.declared.Summarised.{Summarised}
 use Rattle.calls.specs.declared.Removed.{Removed}
 use Rattle.calls.specs.Summarising.{summaryGives, summaryNumber}
 use Rattle.calls.specs.Removing.{removeGives, removeBytes, removalNumber}
-use Rattle.calls.specs.Flipping.{flip32Answer, flip32Bytes, flip23Answer, flip23Bytes}
+use Rattle.calls.specs.Flipping.{flipAnswer, flipBytes}
 
 -- A kernel: a field for each public call, with the bytes of the output block afterwards where the call has one.
 pub record Kernel : Type 0 where
@@ -25,8 +25,7 @@ pub record Kernel : Type 0 where
   pub shown : List ℕ → List Float → Answer × List Float
   pub seal : List ℕ → List ℕ → Answer × List ℕ
   pub remove : List ℕ → List ℕ → ℕ → ℕ → Removed × List ℕ
-  pub flip32 : List ℕ → List ℕ → ℕ → ℕ → Answer × List ℕ
-  pub flip23 : List ℕ → List ℕ → ℕ → ℕ → ℕ → Answer × List ℕ
+  pub flip : List ℕ → List ℕ → List ℕ → Answer × List ℕ
 
 -- ours: each field is the right side of that call's contract
 unfoldable pub ours : Kernel
@@ -36,8 +35,7 @@ ours = record {
   shown = λ block out. (answerOf (shownAnswer block out), shownElements block out);
   seal = λ body out. (answerOf (sealAnswer body out), sealBytes body out);
   remove = λ block out e f. (removeGives block out e f, removeBytes block out e f);
-  flip32 = λ block out e f. (answerOf (flip32Answer block out e f), flip32Bytes block out e f);
-  flip23 = λ block out x y z. (answerOf (flip23Answer block out x y z), flip23Bytes block out x y z);
+  flip = λ block out numbers. (answerOf (flipAnswer block out numbers), flipBytes block out numbers);
 }
 
 -- ---- the numbers that its calls answer
@@ -62,13 +60,9 @@ seals k body out = numberOf (k .seal body out .0)
 abbrev pub removes : Kernel → List ℕ → List ℕ → ℕ → ℕ → ℕ
 removes k block out e f = removalNumber (k .remove block out e f .0 .removal)
 
--- a 3-2 flip
-abbrev pub flips32 : Kernel → List ℕ → List ℕ → ℕ → ℕ → ℕ
-flips32 k block out e f = numberOf (k .flip32 block out e f .0)
-
--- a 2-3 flip
-abbrev pub flips23 : Kernel → List ℕ → List ℕ → ℕ → ℕ → ℕ → ℕ
-flips23 k block out x y z = numberOf (k .flip23 block out x y z .0)
+-- a flip
+abbrev pub flips : Kernel → List ℕ → List ℕ → List ℕ → ℕ
+flips k block out numbers = numberOf (k .flip block out numbers .0)
 
 -- ---- what opening returns
 

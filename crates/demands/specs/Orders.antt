@@ -16,7 +16,7 @@ use Rattle.layout.specs.Layout.{blockBytes, fieldsOf}
 use Rattle.block.specs.Holding.{RightBlock}
 use Rattle.tables.specs.FlipRows.{Apexes}
 use Rattle.demands.specs.Premises.{Ringed, FlatChain}
-use Rattle.demands.specs.Kernels.{Kernel, removes, flips32, flips23}
+use Rattle.demands.specs.Kernels.{Kernel, removes, flips}
 
 -- ---- room
 
@@ -34,13 +34,13 @@ pub record Room (k : Kernel) : Type 0 where
 
 -- ---- either order
 
--- A removal and a 3-2 flip return and leave the same for both orders of the ends, and a 2-3 flip for all six orders of its face:
--- exchanging the first two numbers and turning the three round make up the six.
+-- A removal and a flip of an edge return and leave the same for both orders of the ends, and a flip of a face for all six orders of its
+-- numbers: exchanging the first two and turning the three round make up the six.
 pub record EitherOrder (k : Kernel) : Type 0 where
   pub remove : (block out : List ℕ) (e f : ℕ) → k .remove block out e f ≡ k .remove block out f e
-  pub flip32 : (block out : List ℕ) (e f : ℕ) → k .flip32 block out e f ≡ k .flip32 block out f e
-  pub exchanged : (block out : List ℕ) (x y z : ℕ) → k .flip23 block out x y z ≡ k .flip23 block out y x z
-  pub turned : (block out : List ℕ) (x y z : ℕ) → k .flip23 block out x y z ≡ k .flip23 block out y z x
+  pub flip-ends : (block out : List ℕ) (e f : ℕ) → k .flip block out (e ∷ f ∷ []) ≡ k .flip block out (f ∷ e ∷ [])
+  pub exchanged : (block out : List ℕ) (x y z : ℕ) → k .flip block out (x ∷ y ∷ z ∷ []) ≡ k .flip block out (y ∷ x ∷ z ∷ [])
+  pub turned : (block out : List ℕ) (x y z : ℕ) → k .flip block out (x ∷ y ∷ z ∷ []) ≡ k .flip block out (y ∷ z ∷ x ∷ [])
 
 -- ---- any row order
 
@@ -62,21 +62,18 @@ pub record SameOutput (goes : Row → Bool) (block other output its-output : Lis
   pub behind : map numbers (drop (staying goes block) (fieldsOf output .rows))
       ≡ map numbers (drop (staying goes other) (fieldsOf its-output .rows))
 
--- the answers of the three calls are the same, with 0 so is the output as above, and a removal returns the same ring
+-- the answers of a removal and of a flip are the same, with 0 so is the output as above, and a removal returns the same ring; of a flip the
+-- rows go that hold all of its numbers
 pub record AnyRowOrder (k : Kernel) : Type 0 where
   pub remove-answer : (block other out : List ℕ) (e f : ℕ) → SameMesh block other → removes k block out e f ≡ removes k other out e f
   pub ring : (block other out : List ℕ) (e f : ℕ) → SameMesh block other
       → k .remove block out e f .0 .ring ≡ k .remove other out e f .0 .ring
   pub remove-output : (block other out : List ℕ) (e f : ℕ) → SameMesh block other → removes k block out e f ≡ 0
       → SameOutput (holdsEdge (min e f) (max e f)) block other (k .remove block out e f .1) (k .remove other out e f .1)
-  pub flip32-answer : (block other out : List ℕ) (e f : ℕ) → SameMesh block other
-      → k .flip32 block out e f .0 ≡ k .flip32 other out e f .0
-  pub flip32-output : (block other out : List ℕ) (e f : ℕ) → SameMesh block other → flips32 k block out e f ≡ 0
-      → SameOutput (holdsEdge (min e f) (max e f)) block other (k .flip32 block out e f .1) (k .flip32 other out e f .1)
-  pub flip23-answer : (block other out : List ℕ) (x y z : ℕ) → SameMesh block other
-      → k .flip23 block out x y z .0 ≡ k .flip23 other out x y z .0
-  pub flip23-output : (block other out : List ℕ) (x y z : ℕ) → SameMesh block other → flips23 k block out x y z ≡ 0
-      → SameOutput (holdsFace (x ∷ y ∷ z ∷ [])) block other (k .flip23 block out x y z .1) (k .flip23 other out x y z .1)
+  pub flip-answer : (block other out numbers : List ℕ) → SameMesh block other
+      → k .flip block out numbers .0 ≡ k .flip other out numbers .0
+  pub flip-output : (block other out numbers : List ℕ) → SameMesh block other → flips k block out numbers ≡ 0
+      → SameOutput (holdsFace numbers) block other (k .flip block out numbers .1) (k .flip other out numbers .1)
 
 -- ---- 3-2 after 2-3
 
@@ -89,7 +86,7 @@ OneRegion rows x y z =
 -- The premises: the 2-3 flip of x, y, z was done, its two rows had one region, no row joined the apexes, and the 3-2 flip gets an output
 -- block of the right length.
 pub record Flipped (k : Kernel) (block out other : List ℕ) (x y z a b : ℕ) : Type 0 where
-  pub done : flips23 k block out x y z ≡ 0
+  pub done : flips k block out (x ∷ y ∷ z ∷ []) ≡ 0
   pub right-length : length other ≡ blockBytes
   pub apexes : Apexes (fieldsOf block .rows) x y z a b
   pub one-region : OneRegion (fieldsOf block .rows) x y z
@@ -99,6 +96,6 @@ pub record Flipped (k : Kernel) (block out other : List ℕ) (x y z a b : ℕ) :
 abbrev pub BroughtBack : Kernel → Type 0
 BroughtBack k =
     (block out other : List ℕ) (x y z a b : ℕ) → Flipped k block out other x y z a b
-    → let between = k .flip23 block out x y z .1 in
-    (flips32 k between other a b ≡ 0)
-    × SameTetrahedra (fieldsOf (k .flip32 between other a b .1) .rows) (fieldsOf block .rows)
+    → let between = k .flip block out (x ∷ y ∷ z ∷ []) .1 in
+    (flips k between other (a ∷ b ∷ []) ≡ 0)
+    × SameTetrahedra (fieldsOf (k .flip between other (a ∷ b ∷ []) .1) .rows) (fieldsOf block .rows)

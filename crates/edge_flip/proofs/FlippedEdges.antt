@@ -1,7 +1,7 @@
 -- The 3-2 flip of an edge in a block that opens: the edge's refusal, 13, 15, or the block afterwards.
 use Prim.Native.Nat.{ℕ, suc, _-_, _≤_, min, max}
 use mathlib.Core.Bool.{Bool, true, false, cond, not}
-use mathlib.Core.List.{List, [], _∷_, _++_, append-assoc}
+use mathlib.Core.List.{List, [], _∷_, _++_}
 use mathlib.Core.Path.{_≡_, refl, sym, ap, _∙_, subst}
 use native.Mathlib.Omega.{arith}
 use borrow.Author.Tests.{eq-eqb, ne-eqb}
@@ -32,18 +32,17 @@ use Rattle.triangulation.specs.Steps.{siteIn}
 use Rattle.cells.specs.Steps.{bestOf, cells}
 use Rattle.output.specs.Steps.{tableBytes, tableWith}
 use Rattle.output.proofs.BlockFilledIn.{filled-in}
-use Rattle.calls.specs.Removing.{Sound, blockTests, noWay, patchAfter}
-use Rattle.calls.specs.Flipping.{flip32Tests, flip32Answer, flip32Bytes}
-use Rattle.calls.proofs.CallTests.{block-left}
+use Rattle.calls.specs.Removing.{Sound, noWay, patchAfter}
+use Rattle.calls.specs.Flipping.{flip32Tests, flipTests, patchFlipped, flipAnswer, flipBytes}
+use Rattle.calls.proofs.CallTests.{flip-left}
+use Rattle.calls.proofs.FlipTold.{Told, flip-refused}
 use Rattle.calls.proofs.BestDecides.{chosen-rows}
-use Rattle.calls.proofs.HandedOn.{Number}
 use Rattle.calls.proofs.SoundEdges.{sound-site, two-go}
 use Rattle.edge.specs.Steps.{edgeAnswer, edgeFound}
 use Rattle.edge.proofs.EdgeRinged.{found-refused, own-ring, edge-one, edge-sound, own-site}
 use Rattle.replacement.specs.declared.Way.{Way}
 use Rattle.replacement.specs.Steps.{BestWay, Carriable}
 use Rattle.replacement.proofs.MarkOfWay.{marked, unmarked}
-use Rattle.edge_flip.specs.Steps.{flipAnswer}
 
 -- a refusal stands, if the last test is only stricter and others follow it
 refusal-stands : (xs : Tests) (n k : ℕ) (b c : Bool) (rest : Tests) → (b ≡ true → c ≡ true) → firstRefusal (xs ++ (n, b) ∷ []) ≡ suc k
@@ -82,11 +81,6 @@ module _ (block out : List ℕ) (e f : ℕ) where
   abbrev edge : Tests
   edge = edgeTests ringsAlone site e f
 
-  -- the lengths and the opening, then the flip's own
-  pub in-stages : flip32Answer block out e f ≡ firstRefusal (blockTests block out ++ (edge ++ flip32Tests site))
-  unfolding flip32Answer
-  in-stages = ap firstRefusal (append-assoc (blockTests block out) edge (flip32Tests site))
-
   edge-numbered : T (unlike 0 edge)
   unfolding edgeTests every
   edge-numbered = tt
@@ -95,31 +89,21 @@ module _ (block out : List ℕ) (e f : ℕ) where
   unfolding flip32Tests every
   flip-numbered = tt
 
-  -- ---- a refusal
-
-  -- The answer is told, and the output keeps its bytes.
-  pub record Kept (answer : Answer) : Type 0 where
-    pub told : answer ≡ answerOf (flip32Answer block out e f)
-    pub same : out ≡ flip32Bytes block out e f
-
-  pub kept : (n : ℕ) → Number (flip32Answer block out e f) n → Kept (Refused n)
-  unfolding flip32Bytes
-  kept n k = record {
-    told = ap Refused (k .handed) ∙ sym (ap answerOf (k .answer));
-    same = rw (k .answer, ne-eqb (suc (k .less)) 0 (λ z. omega arith));
-  }
+  abbrev Kept : Answer → Type 0
+  Kept answer = Told block out (e ∷ f ∷ []) answer out
 
   module _ (opens : openAnswer block ≡ 0) (size : length out ≡ blockBytes) (found : Found) (i : found ≡ edgeFound ringsAlone block e f) where
-    same-answer : flip32Answer block out e f ≡ flipAnswer block e f
-    unfolding flipAnswer
-    same-answer = in-stages ∙ block-left block out (edge ++ flip32Tests site) opens size
+    -- what is left behind the block's own answers
+    same-answer : flipAnswer block out (e ∷ f ∷ []) ≡ firstRefusal (edge ++ flip32Tests site)
+    unfolding flipTests
+    same-answer = flip-left block out (e ∷ f ∷ []) opens size
 
-    refusal : (k : ℕ) → flipAnswer block e f ≡ suc k → Kept (Refused (suc k))
-    refusal k h = kept (suc k) (record { less = k; answer = same-answer ∙ h; handed = refl })
+    refusal : (k : ℕ) → firstRefusal (edge ++ flip32Tests site) ≡ suc k → Kept (Refused (suc k))
+    refusal k h = flip-refused block out (e ∷ f ∷ []) k (same-answer ∙ h)
 
     -- answers 9 to 13
-    edge-stands : (k : ℕ) → edgeAnswer ringsAlone block e f ≡ suc k → flipAnswer block e f ≡ suc k
-    unfolding edgeAnswer flipAnswer flip32Tests
+    edge-stands : (k : ℕ) → edgeAnswer ringsAlone block e f ≡ suc k → firstRefusal (edge ++ flip32Tests site) ≡ suc k
+    unfolding edgeAnswer flip32Tests
     edge-stands k h =
         refusal-stands edge 13 k (lengthWrong site) (not (eqb (m site) minRing)) _ (λ q. ap not (wrong-not-three site q)) h
 
@@ -132,9 +116,8 @@ module _ (block out : List ℕ) (e f : ℕ) where
 
     module _ (h : found .answer ≡ Done) where
       -- the flip's own answers are left
-      flip-left : flipAnswer block e f ≡ firstRefusal (flip32Tests site)
-      unfolding flipAnswer
-      flip-left = front-passed edge (flip32Tests site) edge-numbered (edge-one ringsAlone block e f opens found i h)
+      own-left : firstRefusal (edge ++ flip32Tests site) ≡ firstRefusal (flip32Tests site)
+      own-left = front-passed edge (flip32Tests site) edge-numbered (edge-one ringsAlone block e f opens found i h)
 
       ring-length : found .ring .m ≡ m site
       ring-length = ap (λ (r : Ring). r .m) (own-ring ringsAlone block e f opens found i h)
@@ -143,7 +126,7 @@ module _ (block out : List ℕ) (e f : ℕ) where
       unfolding flip32Tests firstRefusal before testOf
       not-three d =
           let other = ap not (ne-eqb (m site) minRing (λ q. d (ring-length ∙ q))) in
-          refusal 12 (flip-left ∙ stops 13 (flip32Tests site) flip-numbered refl other)
+          refusal 12 (own-left ∙ stops 13 (flip32Tests site) flip-numbered refl other)
 
       module _ (three : found .ring .m ≡ minRing) (a b : ℕ) (p : a ≡ min e f) (q : b ≡ max e f) where
         abbrev its : Site
@@ -169,15 +152,15 @@ module _ (block out : List ℕ) (e f : ℕ) where
           unfolding flip32Tests firstRefusal before testOf
           no-way mark =
               let none = marked site sound (omega (arith, three-points)) way best-way mark in
-              refusal 14 (flip-left ∙ stops 15 (flip32Tests site) flip-numbered (rw (eq-eqb (m site) minRing three-points)) none)
+              refusal 14 (own-left ∙ stops 15 (flip32Tests site) flip-numbered (rw (eq-eqb (m site) minRing three-points)) none)
 
           module _ (best : Quality) (is : way .best ≡ Worst best) where
             some-way : noWay site ≡ false
             some-way = unmarked site sound (omega (arith, three-points)) way best-way best is
 
-            zero-answer : flip32Answer block out e f ≡ 0
+            zero-answer : flipAnswer block out (e ∷ f ∷ []) ≡ 0
             unfolding flip32Tests firstRefusal
-            zero-answer = same-answer ∙ flip-left ∙ rw (eq-eqb (m site) minRing three-points, some-way)
+            zero-answer = same-answer ∙ own-left ∙ rw (eq-eqb (m site) minRing three-points, some-way)
 
             pub carriable : {rows : List ℕ} → length (way .apexes) ≡ cells → rows ≡ replicate tableBytes 0 → Carriable its (way .apexes) rows
             carriable whole empty = record {
@@ -197,7 +180,7 @@ module _ (block out : List ℕ) (e f : ℕ) where
               pub room-for : n ≤ maxRows
               room-for = omega (arith, own-number, few)
 
-              pub done-answer : found .answer ≡ answerOf (flip32Answer block out e f)
+              pub done-answer : found .answer ≡ answerOf (flipAnswer block out (e ∷ f ∷ []))
               done-answer = h ∙ sym (ap answerOf zero-answer)
 
               -- the block that was begun, with the rows in their place, finished
@@ -205,8 +188,8 @@ module _ (block out : List ℕ) (e f : ℕ) where
                   → begun ≡ take rowsAt block ++ (replicate tableBytes 0 ++ drop bodyBytes out)
                   → two ≡ take rowsAt begun ++ (rows ++ drop (bodyBytes - rowsAt) (drop rowsAt begun))
                   → done ≡ sealed (take bodyBytes (set two 2 n))
-                  → done ≡ flip32Bytes block out e f
-              unfolding flip32Bytes patchAfter siteOf
+                  → done ≡ flipBytes block out (e ∷ f ∷ [])
+              unfolding flipBytes patchFlipped patchAfter siteOf
               done-bytes rows begun two done r b t d =
                   rw zero-answer
                   (filled-in block opens (drop bodyBytes out) begun b out size after few rows

@@ -1,10 +1,11 @@
 // The 3-2 flip of an edge in a block that opens: three rows round it become two.
+ghost use mathlib.Core.List.{[], _∷_};
 ghost use mathlib.Core.Path.{_≡_};
 ghost use lib.ListN.{length};
 ghost use Rattle.layout.specs.Layout.{blockBytes};
 ghost use Rattle.answers.specs.Answers.{answerOf};
 ghost use Rattle.block.specs.Opening.{openAnswer};
-ghost use Rattle.calls.specs.Flipping.{flip32Answer, flip32Bytes};
+ghost use Rattle.calls.specs.Flipping.{flipAnswer, flipBytes};
 use answers::Answer;
 use cells::Best;
 use edge::edge_at;
@@ -22,8 +23,8 @@ const THREE: u8 = 3;
 // Writes the block afterwards, or refuses and leaves every output byte.
 pub fn flip_edge(block: &[u8], e: usize, f: usize, out: &mut [u8]) -> Answer
     requires { ⌜ (openAnswer (now block) ≡ 0) × (length (now out) ≡ blockBytes) ⌝ }
-    ensures answer { λ r. ⌜ r ≡ answerOf (flip32Answer (now (block .entry)) (now (out .entry)) e f) ⌝ }
-    ensures bytes { λ r. ⌜ now (out .exit) ≡ flip32Bytes (now (block .entry)) (now (out .entry)) e f ⌝ }
+    ensures answer { λ r. ⌜ r ≡ answerOf (flipAnswer (now (block .entry)) (now (out .entry)) (e ∷ f ∷ [])) ⌝ }
+    ensures bytes { λ r. ⌜ now (out .exit) ≡ flipBytes (now (block .entry)) (now (out .entry)) (e ∷ f ∷ []) ⌝ }
 {
     let found = edge_at(block, e, f, false);
     let answer = found.answer;

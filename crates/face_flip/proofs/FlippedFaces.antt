@@ -30,10 +30,11 @@ use Rattle.links.specs.Links.{link}
 use Rattle.walk.specs.Walk.{smallest}
 use Rattle.links.specs.Steps.{LinkedRow}
 use Rattle.face.specs.declared.Sharing.{Sharing}
-use Rattle.calls.specs.Flipping.{Pair, pairOf, threeRows, patchAfter23, flip23Tests, flip23Answer, flip23Bytes}
+use Rattle.calls.specs.Flipping.{Pair, pairOf, threeRows, patchAfter23, flip23Tests, patchFlipped, flipAnswer}
 use Rattle.face.specs.Steps.{sharing, sharingIn, threeOf}
 use Rattle.face_flip.specs.Steps.{RightFace}
 use Rattle.calls.proofs.CallTests.{flip23-left}
+use Rattle.calls.proofs.FlipTold.{Told, flip-refused, flip-done}
 use Rattle.face.proofs.FaceShared.{row-linked}
 
 -- the three rows, as they are written
@@ -52,21 +53,6 @@ three-rows count rows x y z rule some-row =
     let u = arranged-from (pair .a) (smallest face) row (and-l (holds row (pair .a)) (holds row (smallest face)) (it .held))
     (and-r (holds row (pair .a)) (holds row (smallest face)) (it .held)) (it .apart) .2 in
     rw u
-
--- what a 2-3 flip says of its answer and of the output afterwards
-abbrev pub Said : List ℕ → List ℕ → ℕ → ℕ → ℕ → Answer → List ℕ → Type 0
-Said block out x y z answer after = (answer ≡ answerOf (flip23Answer block out x y z)) × (after ≡ flip23Bytes block out x y z)
-
--- a refusal leaves the output as it came
-pub flip-refused : (block out : List ℕ) (x y z n : ℕ) → flip23Answer block out x y z ≡ suc n → Said block out x y z (Refused (suc n)) out
-unfolding flip23Bytes
-flip-refused block out x y z n e = (rw e, rw (e, ne-eqb (suc n) 0 (λ q. omega arith)))
-
--- answer 0 writes the patch afterwards
-flip-done : (block out after : List ℕ) (x y z : ℕ) → flip23Answer block out x y z ≡ 0
-    → after ≡ bytesOf (patchAfter23 (fieldsOf block) (x ∷ y ∷ z ∷ [])) → Said block out x y z Done after
-unfolding flip23Bytes
-flip-done block out after x y z e w = (rw e, rw e w)
 
 -- no more rows are kept than there are
 pub few-kept : (block : List ℕ) (x y z : ℕ) → openAnswer block ≡ 0
@@ -89,7 +75,7 @@ module _ (block out : List ℕ) (x y z : ℕ) (given : RightFace block out x y z
   abbrev rows : List Row
   rows = rowsIn (tableOf block) (rowCount block)
 
-  answer : flip23Answer block out x y z ≡ firstRefusal (flip23Tests patch face)
+  answer : flipAnswer block out face ≡ firstRefusal (flip23Tests patch face)
   answer = flip23-left block out x y z (given .opens) (given .output)
 
   pair-is : found ≡ sharing pair
@@ -100,27 +86,27 @@ module _ (block out : List ℕ) (x y z : ℕ) (given : RightFace block out x y z
   n-is = ap (λ s. s .n) pair-is
 
   -- 10: no row holds the face
-  pub is-10 : found .n ≡ 0 → Said block out x y z (Refused 10) out
+  pub is-10 : found .n ≡ 0 → Told block out face (Refused 10) out
   unfolding flip23Tests firstRefusal
-  is-10 a = flip-refused block out x y z 9 (answer ∙ rw (given .numbers, eq-eqb (length (pair .removed)) 0 (sym n-is ∙ a)))
+  is-10 a = flip-refused block out face 9 (answer ∙ rw (given .numbers, eq-eqb (length (pair .removed)) 0 (sym n-is ∙ a)))
 
   module _ (a10 : found .n ≡ 0 → ⊥) where
     none-10 : eqb (length (pair .removed)) 0 ≡ false
     none-10 = ne-eqb (length (pair .removed)) 0 (λ e. a10 (n-is ∙ e))
 
     -- 11: only one row
-    pub is-11 : found .n ≡ 1 → Said block out x y z (Refused 11) out
+    pub is-11 : found .n ≡ 1 → Told block out face (Refused 11) out
     unfolding flip23Tests firstRefusal
-    is-11 a = flip-refused block out x y z 10 (answer ∙ rw (given .numbers, none-10, eq-eqb (length (pair .removed)) 1 (sym n-is ∙ a)))
+    is-11 a = flip-refused block out face 10 (answer ∙ rw (given .numbers, none-10, eq-eqb (length (pair .removed)) 1 (sym n-is ∙ a)))
 
     module _ (a11 : found .n ≡ 1 → ⊥) where
       none-11 : eqb (length (pair .removed)) 1 ≡ false
       none-11 = ne-eqb (length (pair .removed)) 1 (λ e. a11 (n-is ∙ e))
 
       -- 18: both apexes are one point
-      pub is-18 : found .a ≡ found .b → Said block out x y z (Refused 18) out
+      pub is-18 : found .a ≡ found .b → Told block out face (Refused 18) out
       unfolding flip23Tests firstRefusal
-      is-18 a = flip-refused block out x y z 17 (answer
+      is-18 a = flip-refused block out face 17 (answer
           ∙ rw (given .numbers, none-10, none-11, eq-eqb (pair .a) (pair .b) (sym (ap (λ s. s .a) pair-is) ∙ (a ∙ ap (λ s. s .b) pair-is))))
 
       module _ (a18 : found .a ≡ found .b → ⊥) (k : ℕ) (kept : List ℕ) (k-is : k ≡ length (staying x y z rows))
@@ -162,11 +148,11 @@ module _ (block out : List ℕ) (x y z : ℕ) (given : RightFace block out x y z
         size-after = omega (arith, k-is, length-append (staying x y z rows) three)
 
         -- 14: rows afterwards would be over 60
-        pub is-14 : maxRows < k + 3 → Said block out x y z (Refused 14) out
+        pub is-14 : maxRows < k + 3 → Told block out face (Refused 14) out
         unfolding flip23Tests firstRefusal
         is-14 a =
             let over = lt-ltb maxRows (length after) (omega (arith, size-after)) in
-            flip-refused block out x y z 13 (answer ∙ rw (given .numbers, none-10, none-11, none-18, rows-after, over))
+            flip-refused block out face 13 (answer ∙ rw (given .numbers, none-10, none-11, none-18, rows-after, over))
 
         module _ (a14 : k + 3 ≤ maxRows) (v : ℕ) (v-is : v ≡ u) (table : List ℕ)
             (table-is : table ≡ withRows kept k (threeFrom v)) where
@@ -194,17 +180,17 @@ module _ (block out : List ℕ) (x y z : ℕ) (given : RightFace block out x y z
             few = le-ltb maxRows (length after) (omega (arith, size-after))
 
             -- 15: the table afterwards would break the mesh rule
-            pub is-15 : test ≡ false → Said block out x y z (Refused 15) out
+            pub is-15 : test ≡ false → Told block out face (Refused 15) out
             unfolding flip23Tests firstRefusal
-            is-15 a = flip-refused block out x y z 14 (answer
+            is-15 a = flip-refused block out face 14 (answer
                 ∙ rw (given .numbers, none-10, none-11, none-18, rows-after, few, test-after ∙ a))
 
             -- done
             pub is-0 : test ≡ true → (written : List ℕ) → written ≡ bytesOf (patchWith (patch .points) (rowsIn table (k + 3)))
-                → Said block out x y z Done written
-            unfolding flip23Tests firstRefusal
+                → Told block out face Done written
+            unfolding flip23Tests patchFlipped firstRefusal
             is-0 a written w =
-                let zero-is : flip23Answer block out x y z ≡ 0 = answer
+                let zero-is : flipAnswer block out face ≡ 0 = answer
                 ∙ rw (given .numbers, none-10, none-11, none-18, rows-after, few, test-after ∙ a) in
-                flip-done block out written x y z zero-is (w
+                flip-done block out face written zero-is (w
                 ∙ (ap (λ l. bytesOf (patchWith (patch .points) l)) (read-after ∙ sym rows-after) ∙ ap bytesOf patch-whole))

@@ -1,1 +1,2 @@
 pub mod FlippedFaces
+pub mod FaceGiven

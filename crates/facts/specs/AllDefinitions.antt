@@ -26,8 +26,8 @@ use Rattle.triangulation.specs.Best.{worstOfWay, ringWays, pieceWays, bestWorst
 use Rattle.summary.specs.Summary.{summaryOf}
 use Rattle.calls.specs.Removing.{blockTests, worstNow, noWay, noneBetter, patchAfter, removalTests}
 use Rattle.calls.specs.Removing.{removeAnswer, removeBytes}
-use Rattle.calls.specs.Flipping.{flip32Tests, flip32Answer, apexOver, pairOf, threeRows, patchAfter23}
-use Rattle.calls.specs.Flipping.{flip23Tests, flip23Answer, flip23Bytes}
+use Rattle.calls.specs.Flipping.{flip32Tests, apexOver, pairOf, threeRows, patchAfter23, flip23Tests}
+use Rattle.calls.specs.Flipping.{flipTests, patchFlipped, flipAnswer, flipBytes}
 use Rattle.lines.specs.Lines.{text, spaced, lineEnd, ended, line, mark, summaryFields}
 use Rattle.text.specs.Decimal.{decimalWithin}
 use Rattle.printout.specs.Printout.{report, printout}
@@ -50,6 +50,6 @@ unfolding
     worstOfWay ringWays pieceWays bestWorst reaches apex chosenWithin
     summaryOf
     blockTests worstNow noWay noneBetter patchAfter removalTests removeAnswer removeBytes
-    flip32Tests flip32Answer apexOver pairOf threeRows patchAfter23 flip23Tests flip23Answer flip23Bytes
+    flip32Tests apexOver pairOf threeRows patchAfter23 flip23Tests flipTests patchFlipped flipAnswer flipBytes
     text decimalWithin spaced lineEnd ended line mark summaryFields report printout
 definitions = tt

@@ -18,7 +18,7 @@ use Rattle.ring.specs.Ring.{siteOf}
 use Rattle.triangulation.specs.Triangulation.{Tri, side, cut, ways, newRows}
 use Rattle.tally.specs.Tally.{qualities}
 use Rattle.calls.specs.Removing.{worstNow, removeAnswer, removeBytes}
-use Rattle.calls.specs.Flipping.{flip32Answer, flip23Bytes}
+use Rattle.calls.specs.Flipping.{flipAnswer, flipBytes}
 use Rattle.lines.specs.Lines.{text}
 use Rattle.printout.specs.Printout.{printout}
 use Rattle.facts.specs.AllDefinitions.{definitions}
@@ -144,13 +144,13 @@ facts =
     && eqb (length (ways 3)) 2
     && every (λ t. Ds (newBy t octahedron) (replicate 4 432) && Ss (newBy t octahedron) (replicate 4 504)) (ways 3))
     -- 7. A without its third row, edge 0, 1: 19 for the removal; the plain 3-2 flip still gets 11.
-    ∷ (eqb (answer openA 0 1) 19 && eqb (flip32Answer (bytesOf openA) blank 0 1) 11)
+    ∷ (eqb (answer openA 0 1) 19 && eqb (flipAnswer (bytesOf openA) blank (0 ∷ 1 ∷ [])) 11)
     -- 8. A with a sixth point and the row (5,2,3,4): 15.
     ∷ eqb (answer blockedA 0 1) 15
     -- 9. A, edge 0, 0 or 0, 5: 9; with an unused sixth point, 0, 5 gives 10.
     ∷ (eqb (answer blockA 0 0) 9 && eqb (answer blockA 0 5) 9 && eqb (answer sixA 0 5) 10)
     -- 10. 2-3 flip of face 2, 3, 4 in A's result: A's rows, in A's order.
-    ∷ same eqb (flip23Bytes (bytesOf (after blockA)) blank 2 3 4) (bytesOf blockA)
+    ∷ same eqb (flipBytes (bytesOf (after blockA)) blank (2 ∷ 3 ∷ 4 ∷ [])) (bytesOf blockA)
     -- 11. The block with no points and no rows ends in bytes 1, 0, 252, 1.
     ∷ same eqb (drop bodyBytes (bytesOf nothing)) (1 ∷ 0 ∷ 252 ∷ 1 ∷ [])
     -- 12. A regular row: D 3456, S 1728, score 1000, badness 1.

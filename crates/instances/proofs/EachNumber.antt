@@ -88,7 +88,7 @@ unfolding wrongBlocks openCases edgeCases removeCases every any
 remove-all = tt
 
 abbrev flipped32 : Edge → ℕ
-flipped32 edge = flip32Answer (edge .0) blank (edge .1) (edge .2)
+flipped32 edge = flipAnswer (edge .0) blank ((edge .1) ∷ (edge .2) ∷ [])
 
 flip32-get : T (every (gets (λ (edge : Edge). edge .0) flipped32) (edgeCases ++ flip32Cases))
 unfolding wrongBlocks openCases twoRings edgeCases flip32Cases blockAWith blockA octahedron openA blockedA sixA definitions
@@ -101,7 +101,7 @@ flip32-all = tt
 -- a block with the three numbers of a face
 
 abbrev flipped23 : Face → ℕ
-flipped23 face = flip23Answer (face .0) blank (face .1) (face .2) (face .3)
+flipped23 face = flipAnswer (face .0) blank ((face .1) ∷ (face .2) ∷ (face .3) ∷ [])
 
 flip23-get : T (every (gets (λ (face : Face). face .0) flipped23) flip23Cases)
 unfolding wrongBlocks flip23Cases blockAWith blockA strip definitions

@@ -30,6 +30,6 @@ pub record NumbersCome : Type 0 where
   pub removal : (n : ℕ) → T (has removeNumbers n)
       → (block : List ℕ) × (e f : ℕ) × T (every isByte block) × (removeAnswer block blank e f ≡ n)
   pub flip32 : (n : ℕ) → T (has flip32Numbers n)
-      → (block : List ℕ) × (e f : ℕ) × T (every isByte block) × (flip32Answer block blank e f ≡ n)
+      → (block : List ℕ) × (e f : ℕ) × T (every isByte block) × (flipAnswer block blank (e ∷ f ∷ []) ≡ n)
   pub flip23 : (n : ℕ) → T (has flip23Numbers n)
-      → (block : List ℕ) × (x y z : ℕ) × T (every isByte block) × (flip23Answer block blank x y z ≡ n)
+      → (block : List ℕ) × (x y z : ℕ) × T (every isByte block) × (flipAnswer block blank (x ∷ y ∷ z ∷ []) ≡ n)

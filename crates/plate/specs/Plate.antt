@@ -7,7 +7,7 @@ use Rattle.lists.specs.Lists.{same}
 use Rattle.volume.specs.declared.Point.{Point}
 use Rattle.rows.specs.declared.Row.{Row}
 use Rattle.layout.specs.Layout.{Patch, bytesOf}
-use Rattle.calls.specs.Flipping.{flip32Answer}
+use Rattle.calls.specs.Flipping.{flipAnswer}
 use Rattle.lines.specs.Lines.{text}
 use Rattle.printout.specs.Printout.{printout}
 use Rattle.facts.specs.AllDefinitions.{definitions}
@@ -46,7 +46,7 @@ plate-removed = tt
 
 -- the plain 3-2 flip gets 11; so does the removal, where there are two chains
 pub open-cases :
-    T (eqb (flip32Answer (bytesOf plate) blank 0 1) 11 && eqb (answer (plateOf (row 0 1 4 2 ∷ row 0 1 3 5 ∷ [])) 0 1) 11)
+    T (eqb (flipAnswer (bytesOf plate) blank (0 ∷ 1 ∷ [])) 11 && eqb (answer (plateOf (row 0 1 4 2 ∷ row 0 1 3 5 ∷ [])) 0 1) 11)
 unfolding platePoints plateRows plate plateOf definitions
 open-cases = tt
 

@@ -4,7 +4,7 @@ ghost use mathlib.Core.Path.{_≡_};
 ghost use Rattle.block.specs.Opening.{openAnswer, sealAnswer, sealBytes};
 ghost use Rattle.display.specs.Display.{shownAnswer, shownElements};
 ghost use Rattle.calls.specs.Removing.{removeAnswer, removeBytes};
-ghost use Rattle.calls.specs.Flipping.{flip32Answer, flip32Bytes, flip23Answer, flip23Bytes};
+ghost use Rattle.calls.specs.Flipping.{flipAnswer, flipBytes};
 ghost use Rattle.sumpnewt.specs.Boundary.{summaryAnswer, summaryOut, pageAnswer, pageOut};
 
 // Opens a block.
@@ -66,28 +66,12 @@ pub extern "C" fn sumpnewt_shown(block: &[u8], out: &mut [f64]) -> u32
     answer.number() as u32
 }
 
-// Flips the three rows round the edge between the points a and b to two.
+// Flips the three rows round the edge between two points to two, or the two rows at the face of three points to three.
 #[no_mangle]
-pub extern "C" fn sumpnewt_flip_32(block: &[u8], a: usize, b: usize, out: &mut [u8]) -> u32
-    ensures answer { λ r. ⌜ r ≡ flip32Answer (now (block .entry)) (now (out .entry)) a b ⌝ }
-    ensures bytes { λ r. ⌜ now (out .exit) ≡ flip32Bytes (now (block .entry)) (now (out .entry)) a b ⌝ }
+pub extern "C" fn sumpnewt_flip(block: &[u8], numbers: &[usize], out: &mut [u8]) -> u32
+    ensures answer { λ r. ⌜ r ≡ flipAnswer (now (block .entry)) (now (out .entry)) (now (numbers .entry)) ⌝ }
+    ensures bytes { λ r. ⌜ now (out .exit) ≡ flipBytes (now (block .entry)) (now (out .entry)) (now (numbers .entry)) ⌝ }
 {
-    let answer = patch::flip_32(block, a, b, out);
-    answer.number() as u32
-}
-
-// Flips the two rows at the face u, v, w to three.
-#[no_mangle]
-pub extern "C" fn sumpnewt_flip_23(
-    block: &[u8],
-    u: usize,
-    v: usize,
-    w: usize,
-    out: &mut [u8],
-) -> u32
-    ensures answer { λ r. ⌜ r ≡ flip23Answer (now (block .entry)) (now (out .entry)) u v w ⌝ }
-    ensures bytes { λ r. ⌜ now (out .exit) ≡ flip23Bytes (now (block .entry)) (now (out .entry)) u v w ⌝ }
-{
-    let answer = patch::flip_23(block, u, v, w, out);
+    let answer = patch::flip(block, numbers, out);
     answer.number() as u32
 }

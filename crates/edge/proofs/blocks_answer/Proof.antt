@@ -2,7 +2,7 @@
 use mathlib.Core.Path.{sym, ap, _∙_}
 use borrow.Author.Needs.{needs}
 use Rattle.answers.specs.Answers.{answerOf}
-use Rattle.calls.proofs.CallTests.{both-opened}
+use Rattle.calls.proofs.CallTests.{out-opened}
 use Rattle.edge.proofs.EdgeAnswers.{block-1, out-1}
 use Rattle.edge.proofs.blocks_answer.Statement.{statement}
 use Rattle.edge.proofs.blocks_answer.Tie as tie
@@ -26,7 +26,7 @@ returns-3 c =
     let e2 = c .before in
     let e1 = e2 .before in
     let a = e1 .before .before .before .args in
-    c .opening .ensures ∙ ap answerOf (sym (both-opened (a .block .now) (a .out .now) (e1 .if1 .left) (e2 .if2 .left)))
+    c .opening .ensures ∙ ap answerOf (sym (out-opened (a .block .now) (a .out .now) (e2 .if2 .left)))
 
 pub blocks-answer-spec : {M : Type 1} → statement M
 blocks-answer-spec = tie.close (tie.spec returns returns-2 opening-requires returns-3)

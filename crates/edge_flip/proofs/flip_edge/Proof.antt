@@ -74,15 +74,13 @@ returns c =
     let edge = c .before .before .before in
     let start = edge .before .before .before in
     let args = start .args in
-    let kept = edge-refuses (args .block .now) (args .out .now) (args .e) (args .f) (start .pre .0) (start .pre .1) _ (edge .edge-at .ensures) _
-    (c .enum-told2 .given .1) in
-    (kept .told, kept .same)
+    edge-refuses (args .block .now) (args .out .now) (args .e) (args .f) (start .pre .0) (start .pre .1) _ (edge .edge-at .ensures) _
+    (c .enum-told2 .given .1)
 
 returns-2 : tie.Need-returns-2
 returns-2 c =
     let k = c .before .before in
-    let kept = not-three (blockOf k) (outOf k) (eOf k) (fOf k) (opens k) (room k) (foundAt k) (is-found k) (is-done k) (c .if1 .taken) in
-    (kept .told, kept .same)
+    not-three (blockOf k) (outOf k) (eOf k) (fOf k) (opens k) (room k) (foundAt k) (is-found k) (is-done k) (c .if1 .taken)
 
 shared-slice-read-count : tie.Need-shared-slice-read-count
 shared-slice-read-count c = omega (arith, size (c .before .before .before))
@@ -137,9 +135,8 @@ returns-3 c =
     let best = c .before .before .before in
     let three = best .before .before .before .before .before .before .before in
     let k = three .before .before in
-    let kept = no-way (blockOf k) (outOf k) (eOf k) (fOf k) (opens k) (room k) (foundAt k) (is-found k) (is-done k) (three .if1 .left) _ _
-    (best .before .before .smaller .ensures) (best .before .larger .ensures) _ (best .best-way .ensures) (c .enum-told4 .given .1) in
-    (kept .told, kept .same)
+    no-way (blockOf k) (outOf k) (eOf k) (fOf k) (opens k) (room k) (foundAt k) (is-found k) (is-done k) (three .if1 .left) _ _
+    (best .before .before .smaller .ensures) (best .before .larger .ensures) _ (best .best-way .ensures) (c .enum-told4 .given .1)
 
 begin-requires : tie.Need-begin-requires
 begin-requires c κs = search needs
