@@ -137,6 +137,8 @@ flip-accepted block out =
     each-count
     (λ numbers. flipAnswer block out numbers ≡ 0
     → Accepted block (flipBytes block out numbers) (holdsFace numbers) (rowsFlipped (fieldsOf block) numbers))
-    (λ e f h. subst (λ goes. Accepted block (flipBytes block out (e ∷ f ∷ [])) goes _) (ends-held e f) (flip32-accepted block out e f h))
+    (λ e f h.
+    subst (λ goes. Accepted block (flipBytes block out (e ∷ f ∷ [])) goes (rowsFlipped (fieldsOf block) (e ∷ f ∷ []))) (ends-held e f)
+    (flip32-accepted block out e f h))
     (flip23-accepted block out)
     (λ numbers two three h. absurd (never-done block out numbers two three h))

@@ -1,11 +1,14 @@
--- The numbers that come: what a call returns has the number of its definition, a removal's is on its list, and a refusal leaves the output
--- as it came and returns nothing else.
+-- The numbers that come: what a call returns has the number of its definition, those of a removal and of a flip are on their lists, and a
+-- refusal leaves the output as it came and returns nothing else.
 use Prim.Native.Nat.{ℕ, zero, suc}
-use mathlib.Core.List.{List, []}
+use mathlib.Core.Bool.{true}
+use mathlib.Core.List.{List, [], _∷_, _++_}
 use mathlib.Core.Path.{_≡_, refl, ap}
+use native.Mathlib.Omega.{arith}
 use borrow.Author.Tests.{ne-eqb}
 use lib.Dec.{T}
-use Rattle.lists.specs.Lists.{has}
+use lib.ListN.{length}
+use Rattle.lists.specs.Lists.{any, has}
 use Rattle.page.specs.Page.{shown, pageRow}
 use Rattle.layout.specs.Layout.{fieldsOf}
 use Rattle.body.specs.Body.{bodyTests}
@@ -18,7 +21,9 @@ use Rattle.calls.specs.declared.Removal.the-variants.{Done, Refused}
 use Rattle.calls.specs.declared.Removed.{Removed}
 use Rattle.calls.specs.Summarising.{summaryGives, summaryNumber}
 use Rattle.calls.specs.Removing.{blockTests, patchAfter, removalTests, removeAnswer, removeGives, removalNumber}
-use Rattle.accepted.specs.CallNumbers.{removeNumbers}
+use Rattle.calls.specs.Flipping.{flip32Tests, flip23Tests, flipTests, flipAnswer}
+use Rattle.calls.proofs.CallTests.{miscounted, never-done}
+use Rattle.accepted.specs.CallNumbers.{removeNumbers, flipNumbers}
 
 -- any number but 0 leaves the output as it came
 pub kept-out : (answer : ℕ) (bytes out : List ℕ) → (answer ≡ 0 → ⊥) → written answer bytes out ≡ out
@@ -72,3 +77,26 @@ gives-no-ring block out e f other = go (removeAnswer block out e f) refl
     go : (n : ℕ) → removeAnswer block out e f ≡ n → removeGives block out e f .ring ≡ ringWith []
     go zero h = absurd (other h)
     go (suc n) h = ap (λ (r : Removed). r .ring) (gives-refused block out e f n h)
+
+-- ---- the flip
+
+-- a number that is not 0 is on the list without it
+without-0 : (numbers : List ℕ) (n : ℕ) → T (has (0 ∷ numbers) n) → (n ≡ 0 → ⊥) → T (has numbers n)
+unfolding any
+without-0 numbers n h other = rw (ne-eqb n 0 other) at h
+
+other-listed : (block out numbers : List ℕ) → (length numbers ≡ 2 → ⊥) → (length numbers ≡ 3 → ⊥)
+    → T (has (1 ∷ 2 ∷ 3 ∷ 4 ∷ 5 ∷ 6 ∷ 7 ∷ 8 ∷ 21 ∷ []) (flipAnswer block out numbers))
+unfolding flipAnswer blockTests bodyTests
+other-listed block out numbers two three =
+    without-0 _ _ (rw (miscounted (fieldsOf block) numbers two three) (on-list (blockTests block out ++ (21, true) ∷ [])))
+    (never-done block out numbers two three)
+
+pub flip-listed : (block out numbers : List ℕ) → T (has (flipNumbers numbers) (flipAnswer block out numbers))
+unfolding flipAnswer flipTests blockTests bodyTests edgeTests flip32Tests flip23Tests
+flip-listed block out (e ∷ f ∷ []) = on-list _
+flip-listed block out (x ∷ y ∷ z ∷ []) = on-list _
+flip-listed block out [] = other-listed block out [] (λ e. omega arith) (λ e. omega arith)
+flip-listed block out (x ∷ []) = other-listed block out (x ∷ []) (λ e. omega arith) (λ e. omega arith)
+flip-listed block out (x ∷ y ∷ z ∷ w ∷ more) =
+    other-listed block out (x ∷ y ∷ z ∷ w ∷ more) (λ e. omega arith) (λ e. omega arith)

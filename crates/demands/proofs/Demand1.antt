@@ -1,28 +1,19 @@
 -- Demand 1: what a call returns has the number of its definition, that number is on the call's list, and a refusal writes nothing and
 -- returns nothing else.
 -- An answer is the number of the first test that is true, so it is 0 or one of the tests' numbers.
-use Prim.Native.Nat.{ℕ, zero, suc}
-use mathlib.Core.Bool.{true}
-use mathlib.Core.List.{List, [], _∷_, _++_}
-use mathlib.Core.Path.{_≡_, refl, _∙_}
-use native.Mathlib.Omega.{arith}
+use Prim.Native.Nat.{ℕ}
+use mathlib.Core.List.{List}
+use mathlib.Core.Path.{_≡_, _∙_}
 use borrow.Author.Tests.{ne-eqb}
-use lib.Dec.{T}
-use lib.ListN.{length}
-use Rattle.lists.specs.Lists.{any, has}
-use Rattle.body.specs.Body.{bodyTests}
 use Rattle.block.specs.Opening.{openAnswer, openGives, sealAnswer}
-use Rattle.layout.specs.Layout.{fieldsOf, noFields}
-use Rattle.answers.proofs.Refusals.{on-list, number-of}
+use Rattle.layout.specs.Layout.{noFields}
+use Rattle.answers.proofs.Refusals.{number-of}
 use Rattle.block.proofs.OpenedAndSealed.{open-list, seal-list, seal-keeps}
 use Rattle.display.specs.Display.{shownAnswer}
 use Rattle.display.proofs.ShownRows.{shown-list, shown-keeps}
-use Rattle.ring.specs.Ring.{edgeTests}
-use Rattle.calls.specs.Removing.{blockTests, removeAnswer, removeBytes}
-use Rattle.calls.specs.Flipping.{flip32Tests, flip23Tests, flipTests, flipAnswer, flipBytes}
-use Rattle.calls.proofs.CallTests.{miscounted, never-done}
-use Rattle.accepted.specs.CallNumbers.{flipNumbers}
-use Rattle.accepted.proofs.CallsNumbered.{kept-out, open-number, summary-number, remove-listed, remove-number, gives-no-ring}
+use Rattle.calls.specs.Removing.{removeAnswer, removeBytes}
+use Rattle.calls.specs.Flipping.{flipAnswer, flipBytes}
+use Rattle.accepted.proofs.CallsNumbered.{kept-out, open-number, summary-number, remove-listed, remove-number, gives-no-ring, flip-listed}
 use Rattle.demands.specs.Kernels.{ours}
 use Rattle.demands.specs.Demands.{Demand1, Numbered}
 
@@ -30,28 +21,6 @@ use Rattle.demands.specs.Demands.{Demand1, Numbered}
 gives-no-fields : (block : List ℕ) → (openAnswer block ≡ 0 → ⊥) → openGives block .fields ≡ noFields
 unfolding openGives
 gives-no-fields block h = rw (ne-eqb (openAnswer block) 0 h)
-
--- a number that is not 0 is on the list without it
-without-0 : (numbers : List ℕ) (n : ℕ) → T (has (0 ∷ numbers) n) → (n ≡ 0 → ⊥) → T (has numbers n)
-unfolding any
-without-0 numbers zero h other = absurd (other refl)
-without-0 numbers (suc n) h other = h
-
-other-listed : (block out numbers : List ℕ) → (length numbers ≡ 2 → ⊥) → (length numbers ≡ 3 → ⊥)
-    → T (has (1 ∷ 2 ∷ 3 ∷ 4 ∷ 5 ∷ 6 ∷ 7 ∷ 8 ∷ 21 ∷ []) (flipAnswer block out numbers))
-unfolding flipAnswer blockTests bodyTests
-other-listed block out numbers two three =
-    without-0 _ _ (rw (miscounted (fieldsOf block) numbers two three) (on-list (blockTests block out ++ (21, true) ∷ [])))
-    (never-done block out numbers two three)
-
-pub flip-listed : (block out numbers : List ℕ) → T (has (flipNumbers numbers) (flipAnswer block out numbers))
-unfolding flipAnswer flipTests blockTests bodyTests edgeTests flip32Tests flip23Tests
-flip-listed block out (e ∷ f ∷ []) = on-list _
-flip-listed block out (x ∷ y ∷ z ∷ []) = on-list _
-flip-listed block out [] = other-listed block out [] (λ e. omega arith) (λ e. omega arith)
-flip-listed block out (x ∷ []) = other-listed block out (x ∷ []) (λ e. omega arith) (λ e. omega arith)
-flip-listed block out (x ∷ y ∷ z ∷ w ∷ more) =
-    other-listed block out (x ∷ y ∷ z ∷ w ∷ more) (λ e. omega arith) (λ e. omega arith)
 
 -- the numbers of all calls
 pub numbered : Numbered ours
