@@ -3,7 +3,7 @@
 use Prim.Native.Nat.{ℕ, zero, suc, _-_, min, max}
 use mathlib.Core.Bool.{Bool, true, false, cond, not, _&&_}
 use mathlib.Core.List.{List, [], _∷_, _++_, append-assoc, map}
-use mathlib.Core.Path.{_≡_, refl, sym, ap, _∙_}
+use mathlib.Core.Path.{_≡_, refl, sym, ap, _∙_, subst}
 use borrow.Author.Tests.{eqb-true, eqb-false, eq-eqb}
 use lib.Dec.{eqb, ltb}
 use lib.ListN.{length}
@@ -22,15 +22,15 @@ use Rattle.ring.specs.Ring.{siteOf, numbersWrong, ringsAlone, orChains, edgeTes
 use Rattle.ring.specs.declared.Ring.{Ring}
 use Rattle.calls.specs.Removing.{blockTests, removeAnswer, removeBytes, removeGives, Sound}
 use Rattle.calls.specs.declared.Removed.{Removed}
-use Rattle.calls.specs.Flipping.{flip32Answer, flip32Bytes, pairOf, flip23Tests, flip23Answer, flip23Bytes}
-use Rattle.calls.proofs.CallTests.{block-opened, taken, removes, flips-32, flips-23}
+use Rattle.calls.specs.Flipping.{pairOf, flipTests, flipAnswer, flipBytes}
+use Rattle.calls.proofs.CallTests.{block-opened, taken, removes, each-count, miscounted, never-done, flips-32, flips-23}
 use Rattle.calls.proofs.SoundEdges.{sound-site, ends-fit}
 use Rattle.tables.proofs.SameTables.{SameTables}
 use Rattle.tables.proofs.FacingRows.{face-apart}
 use Rattle.tables.proofs.RemovalInAnyOrder as Removal
 use Rattle.tables.proofs.FlipInAnyOrder as Flip
 use Rattle.accepted.proofs.CallsNumbered.{gives-done, gives-refused, remove-number}
-use Rattle.accepted.proofs.AcceptedCalls.{remove-accepted, flip32-accepted, flip23-accepted}
+use Rattle.accepted.proofs.AcceptedCalls.{remove-accepted, flip32-accepted, flip23-accepted, ends-held}
 use Rattle.demands.specs.Orders.{SameMesh, SameOutput, AnyRowOrder}
 use Rattle.demands.specs.Kernels.{ours}
 
@@ -152,19 +152,50 @@ module _ (block other out : List ℕ) (e f : ℕ) (same : SameMesh block other) 
 module _ (block other out : List ℕ) (same : SameMesh block other) where
   left-same : (numbers : List ℕ) → firstRefusal (flipTests (fieldsOf block) numbers) ≡ firstRefusal (flipTests (fieldsOf other) numbers)
   unfolding flipTests
-  left-same (e ∷ f ∷ []) = ends-left-same block other out e f same
-  left-same (x ∷ y ∷ z ∷ []) = Flip.tests-same (fieldsOf block) (fieldsOf other) x y z (tables same)
-  left-same [] = refl
-  left-same (x ∷ []) = refl
-  left-same (x ∷ y ∷ z ∷ w ∷ more) = refl
+  left-same =
+      each-count (λ numbers. firstRefusal (flipTests (fieldsOf block) numbers) ≡ firstRefusal (flipTests (fieldsOf other) numbers))
+      (λ e f. ends-left-same block other out e f same)
+      (λ x y z. Flip.tests-same (fieldsOf block) (fieldsOf other) x y z (tables same))
+      (λ numbers two three.
+      ap firstRefusal (miscounted (fieldsOf block) numbers two three ∙ sym (miscounted (fieldsOf other) numbers two three)))
 
   flip-answer-same : (numbers : List ℕ) → flipAnswer block out numbers ≡ flipAnswer other out numbers
   unfolding flipAnswer
   flip-answer-same numbers = blocks-then block other out same _ _ (left-same numbers)
 
-  -- its new rows
-  rows-same : (numbers : List ℕ) → flipAnswer block out numbers ≡ 0
-      → map numbers-of-row (rowsFlipped (fieldsOf block) numbers) ≡ map numbers-of-row (rowsFlipped (fieldsOf other) numbers)
+  done-too : (numbers : List ℕ) → flipAnswer block out numbers ≡ 0 → flipAnswer other out numbers ≡ 0
+  done-too numbers done = sym (flip-answer-same numbers) ∙ done
+
+  ends-output-same : (e f : ℕ) → flipAnswer block out (e ∷ f ∷ []) ≡ 0
+      → SameOutput (holdsEdge (min e f) (max e f)) block other (flipBytes block out (e ∷ f ∷ [])) (flipBytes other out (e ∷ f ∷ []))
+  unfolding siteOf
+  ends-output-same e f done =
+      same-output (holdsEdge (min e f) (max e f)) _ _ (flip32-accepted block out e f done .rows)
+      (flip32-accepted other out e f (done-too (e ∷ f ∷ []) done) .rows) (Removal.kept-same (fieldsOf block) (fieldsOf other) e f (tables same))
+      (Removal.numbers-of (fieldsOf block) (fieldsOf other) e f (tables same) (ends-fit block e f (flips-32 block out e f done .sound) .2))
+
+  face-output-same : (x y z : ℕ) → flipAnswer block out (x ∷ y ∷ z ∷ []) ≡ 0
+      → SameOutput (holdsFace (x ∷ y ∷ z ∷ [])) block other (flipBytes block out (x ∷ y ∷ z ∷ [])) (flipBytes other out (x ∷ y ∷ z ∷ []))
+  unfolding pairOf
+  face-output-same x y z done =
+      let face : List ℕ = x ∷ y ∷ z ∷ [] in
+      let r = flips-23 block out x y z done in
+      let apart = face-apart (length (fieldsOf block .points)) face (r .numbers) in
+      let (f, g) = Flip.both-face (fieldsOf block) (fieldsOf other) x y z (tables same) apart (r .some-row) (r .no-single) (r .apart) in
+      same-output (holdsFace face) _ _ (flip23-accepted block out x y z done .rows)
+      (flip23-accepted other out x y z (done-too face done) .rows) (Flip.kept-same (fieldsOf block) (fieldsOf other) x y z (tables same))
+      (Flip.three-same (fieldsOf block) (fieldsOf other) x y z (tables same) apart f g)
+
+  flip-output-same : (numbers : List ℕ) → flipAnswer block out numbers ≡ 0
+      → SameOutput (holdsFace numbers) block other (flipBytes block out numbers) (flipBytes other out numbers)
+  flip-output-same =
+      each-count (λ numbers. flipAnswer block out numbers ≡ 0
+      → SameOutput (holdsFace numbers) block other (flipBytes block out numbers) (flipBytes other out numbers))
+      (λ e f done.
+      subst (λ goes. SameOutput goes block other (flipBytes block out (e ∷ f ∷ [])) (flipBytes other out (e ∷ f ∷ []))) (ends-held e f)
+      (ends-output-same e f done))
+      face-output-same
+      (λ numbers two three done. absurd (never-done block out numbers two three done))
 
 pub any-row-order : AnyRowOrder ours
 unfolding ours
@@ -174,8 +205,6 @@ any-row-order = record {
   ring = ring-given-same;
   remove-output = λ block other out e f same done.
       remove-output-same block other out e f same (sym (remove-number block out e f) ∙ done);
-  flip32-answer = λ block other out e f same. ap answerOf (flip32-answer-same block other out e f same);
-  flip32-output = λ block other out e f same done. flip32-output-same block other out e f same (sym (number-of _) ∙ done);
-  flip23-answer = λ block other out x y z same. ap answerOf (flip23-answer-same block other out x y z same);
-  flip23-output = λ block other out x y z same done. flip23-output-same block other out x y z same (sym (number-of _) ∙ done);
+  flip-answer = λ block other out numbers same. ap answerOf (flip-answer-same block other out same numbers);
+  flip-output = λ block other out numbers same done. flip-output-same block other out same numbers (sym (number-of _) ∙ done);
 }

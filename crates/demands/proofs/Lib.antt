@@ -10,6 +10,7 @@ pub mod TotalFromRing
 pub mod RingWords
 pub mod RemovalWords
 pub mod RoomByLength
+pub mod FlipCountWords
 pub mod Flip32Words
 pub mod Flip23Words
 pub mod QualityByDAndS
