@@ -136,3 +136,9 @@ flip23Cases =
     -- a kept row has the face (0,1,3)
     ∷ (15, (bytesOf (twoRows (at 9 9 9 ∷ []) (row 5 0 1 3 ∷ [])), 2, 3, 4))
     ∷ []
+
+-- ---- neither an edge nor a face
+
+-- 1 to 8 and 21
+unfoldable pub otherCases : Cases (List ℕ)
+otherCases = (21, bytesOf blockA) ∷ wrongBlocks

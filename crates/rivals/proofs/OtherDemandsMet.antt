@@ -40,8 +40,7 @@ module _ (remove : List ℕ → List ℕ → ℕ → ℕ → Removed × List ℕ
       shown-number = numbered .shown-number;
       seal-number = numbered .seal-number;
       remove-number = same;
-      flip32-number = numbered .flip32-number;
-      flip23-number = numbered .flip23-number;
+      flip-number = numbered .flip-number;
     };
     open-listed = demand-1 .open-listed;
     open-alone = demand-1 .open-alone;
@@ -53,10 +52,8 @@ module _ (remove : List ℕ → List ℕ → ℕ → ℕ → Removed × List ℕ
     remove-listed = λ block out e f. rw (same block out e f) (remove-listed block out e f);
     remove-keeps = λ block out e f h. keeps block out e f (λ q. h (same block out e f ∙ q));
     remove-alone = λ block out e f h. alone block out e f (λ q. h (same block out e f ∙ q));
-    flip32-listed = demand-1 .flip32-listed;
-    flip32-keeps = demand-1 .flip32-keeps;
-    flip23-listed = demand-1 .flip23-listed;
-    flip23-keeps = demand-1 .flip23-keeps;
+    flip-listed = demand-1 .flip-listed;
+    flip-keeps = demand-1 .flip-keeps;
   }
 
 pub fixed-block-1 : (fixed : List ℕ) → Demand1 (fixing fixed)
@@ -97,8 +94,7 @@ invented-counts-1 upright flat inverted = record {
     shown-number = numbered .shown-number;
     seal-number = numbered .seal-number;
     remove-number = numbered .remove-number;
-    flip32-number = numbered .flip32-number;
-    flip23-number = numbered .flip23-number;
+    flip-number = numbered .flip-number;
   };
   open-listed = demand-1 .open-listed;
   open-alone = demand-1 .open-alone;
@@ -110,10 +106,8 @@ invented-counts-1 upright flat inverted = record {
   remove-listed = demand-1 .remove-listed;
   remove-keeps = demand-1 .remove-keeps;
   remove-alone = demand-1 .remove-alone;
-  flip32-listed = demand-1 .flip32-listed;
-  flip32-keeps = demand-1 .flip32-keeps;
-  flip23-listed = demand-1 .flip23-listed;
-  flip23-keeps = demand-1 .flip23-keeps;
+  flip-listed = demand-1 .flip-listed;
+  flip-keeps = demand-1 .flip-keeps;
 }
 
 -- a kernel that refuses all, with whatever numbers, refuses where the table gives 0
@@ -138,8 +132,7 @@ refuses-all-2 number = record {
   seal-right = demand-2 .seal-right;
   seal = demand-2 .seal;
   remove = λ block out e f h. absurd (never (number block out e f) h);
-  flip32 = demand-2 .flip32;
-  flip23 = demand-2 .flip23;
+  flip = demand-2 .flip;
 }
   where
     never : (n : ℕ) → suc n ≡ 0 → ⊥

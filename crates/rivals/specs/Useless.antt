@@ -27,8 +27,7 @@ withRemove remove = record {
   shown = ours .shown;
   seal = ours .seal;
   remove = remove;
-  flip32 = ours .flip32;
-  flip23 = ours .flip23;
+  flip = ours .flip;
 }
 
 -- ours, with another summary
@@ -39,8 +38,7 @@ withSummary summary = record {
   shown = ours .shown;
   seal = ours .seal;
   remove = ours .remove;
-  flip32 = ours .flip32;
-  flip23 = ours .flip23;
+  flip = ours .flip;
 }
 
 -- "one that refuses all", with whatever numbers
