@@ -16,7 +16,6 @@ use Rattle.layout.specs.Layout.{Patch, blockBytes, maxRows, fieldsOf}
 use Rattle.answers.specs.Answers.{Tests, firstRefusal, answerOf}
 use Rattle.block.specs.Opening.{notBlock, openAnswer}
 use Rattle.body.specs.Body.{bodyTests}
-use Rattle.block.proofs.RightBlocks.{right-block}
 use Rattle.answers.proofs.Refusals.{goes-on, refuses}
 use Rattle.answers.proofs.ByNumber.{unlike, testOf, passes, both-passed, front-passed}
 use Rattle.ring.specs.Ring.{Site, siteOf, m, minRing, numbersWrong, ringsAlone, orChains, linkOpen, lengthWrong, notFlat, edgeTests}

@@ -1,15 +1,14 @@
 -- What a flip tells of its answer and of the output afterwards: a refusal, of the block or of how many numbers there are, leaves the output as
 -- it came, and answer 0 writes the patch afterwards.
 use Prim.Native.Nat.{ℕ, suc}
-use mathlib.Core.Bool.{true}
-use mathlib.Core.List.{List, [], _∷_, _++_}
-use mathlib.Core.Path.{_≡_, refl, sym, ap, _∙_}
+use mathlib.Core.List.{List}
+use mathlib.Core.Path.{_≡_, ap, _∙_}
 use native.Mathlib.Omega.{arith}
 use borrow.Author.Tests.{ne-eqb}
 use lib.ListN.{length}
 use Rattle.answers.specs.declared.Answer.{Answer}
 use Rattle.answers.specs.declared.Answer.the-variants.{Done, Refused}
-use Rattle.layout.specs.Layout.{Patch, blockBytes, fieldsOf, bytesOf}
+use Rattle.layout.specs.Layout.{blockBytes, fieldsOf, bytesOf}
 use Rattle.answers.specs.Answers.{firstRefusal, answerOf}
 use Rattle.block.specs.Opening.{openAnswer}
 use Rattle.calls.specs.Removing.{blockTests}

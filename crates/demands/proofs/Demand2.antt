@@ -34,6 +34,7 @@ use Rattle.calls.specs.Flipping.{pairOf, patchAfter23, flipAnswer, flipBytes}
 use Rattle.calls.proofs.CallTests.{each-count, never-done, flips-32, flips-23}
 use Rattle.calls.proofs.SoundEdges.{sound-site}
 use Rattle.tables.specs.RoundAnEdge.{Round}
+use Rattle.tables.specs.FlipRows.{new23}
 use Rattle.tables.proofs.RingReplaced.{way-found}
 use Rattle.tables.proofs.FacingRows.{face-apart}
 use Rattle.tables.proofs.RingOfThree.{across, three-chosen}
@@ -126,7 +127,8 @@ flip23-done block out x y z h =
         read = read;
         room = omega (arith, one-more (fieldsOf block) face (two-apexes (fieldsOf block) x y z (pair .a) (pair .b) (right .body .rule) apexes), r .room);
       };
-      accepted = subst (Accepted block (flipBytes block out (x ∷ y ∷ z ∷ [])) (holdsFace face))
+      accepted = subst (Accepted block (flipBytes block out face) (holdsFace face))
+          {y = new23 (fieldsOf block .rows) face (pair .a) (pair .b) u v w}
           (new-is (fieldsOf block) x y z (pair .a) (pair .b) (right .body .rule) apexes (f .less) u v w read) (flip23-accepted block out x y z h);
     }
 

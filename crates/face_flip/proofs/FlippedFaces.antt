@@ -1,5 +1,5 @@
 -- The answers of a 2-3 flip, one by one, and the table that is written with answer 0: the rows kept, then the three.
-use Prim.Native.Nat.{ℕ, suc, _+_, _*_, _≤_, _<_}
+use Prim.Native.Nat.{ℕ, _+_, _*_, _≤_, _<_}
 use mathlib.Core.Bool.{Bool, true, false}
 use mathlib.Core.List.{List, [], _∷_, _++_, flatMap}
 use mathlib.Core.Path.{_≡_, refl, sym, ap, _∙_, subst}
@@ -14,10 +14,9 @@ use Rattle.rows.specs.Rows.{rowSize, rowBytes, rowsIn, withRows, holds}
 use Rattle.mesh.specs.Mesh.{keepsMeshRule}
 use Rattle.rows.proofs.EvenGroup.{arranged-from}
 use Rattle.rows.proofs.RowsOfTables.{rows-length}
-use Rattle.answers.specs.declared.Answer.{Answer}
 use Rattle.answers.specs.declared.Answer.the-variants.{Done, Refused}
 use Rattle.layout.specs.Layout.{Patch, maxRows, pointCount, rowCount, tableOf, fieldsOf, bytesOf}
-use Rattle.answers.specs.Answers.{firstRefusal, answerOf}
+use Rattle.answers.specs.Answers.{firstRefusal}
 use Rattle.block.specs.Opening.{openAnswer}
 use Rattle.layout.proofs.PatchWritten.{points-counted}
 use Rattle.tally.proofs.OpensMeasured.{few-rows, rule-kept}
