@@ -2,6 +2,7 @@
 use Prim.Native.Nat.{ℕ}
 use mathlib.Core.List.{List}
 use mathlib.Core.Path.{_≡_}
+use native.Mathlib.Omega.{arith}
 use borrow.Author.Needs.{needs}
 use lib.ListN.{length}
 use Rattle.layout.specs.Layout.{blockBytes}
@@ -47,10 +48,10 @@ returns c =
     flip-blocked (args .block .now) (args .out .now) (args .numbers .now) _ _ (answered .blocks-answer .ensures) (c .enum-told2 .given .1)
 
 shared-slice-read-flip-edge : tie.Need-shared-slice-read-flip-edge
-shared-slice-read-flip-edge c = search needs
+shared-slice-read-flip-edge c = omega (arith, c .before .if1 .taken)
 
 shared-slice-read-flip-edge-2 : tie.Need-shared-slice-read-flip-edge-2
-shared-slice-read-flip-edge-2 c = search needs
+shared-slice-read-flip-edge-2 c = omega (arith, c .before .before .if1 .taken)
 
 flip-edge-requires : tie.Need-flip-edge-requires
 flip-edge-requires c κs = opens (c .before .before .before .before)
@@ -65,13 +66,13 @@ returns-2 c =
     two-told (blockOf k) (outOf k) (numbersOf k) (is-two .if1 .taken) (c .before .before .flip-edge .ensures)
 
 shared-slice-read-flip-face : tie.Need-shared-slice-read-flip-face
-shared-slice-read-flip-face c = search needs
+shared-slice-read-flip-face c = omega (arith, c .before .if2 .taken)
 
 shared-slice-read-flip-face-2 : tie.Need-shared-slice-read-flip-face-2
-shared-slice-read-flip-face-2 c = search needs
+shared-slice-read-flip-face-2 c = omega (arith, c .before .before .if2 .taken)
 
 shared-slice-read-flip-face-3 : tie.Need-shared-slice-read-flip-face-3
-shared-slice-read-flip-face-3 c = search needs
+shared-slice-read-flip-face-3 c = omega (arith, c .before .before .before .if2 .taken)
 
 flip-face-requires : tie.Need-flip-face-requires
 flip-face-requires c κs = opens (c .before .before .before .before .before .before)
