@@ -108,7 +108,8 @@ enum {
     SUMPNEWT_COORDINATE = 6,     /* a coordinate is over 128 */
     SUMPNEWT_ROW = 7,            /* a row's number is not below the point count, or repeats */
     SUMPNEWT_FACE_TWICE = 8,     /* a directed face stands in two rows */
-    SUMPNEWT_NOT_TWO_OR_THREE = 21, /* flip: neither two numbers nor three are given */
+    SUMPNEWT_NOT_TWO_OR_THREE = 21,
+                                 /* flip: neither two numbers nor three are given */
     SUMPNEWT_BAD_NUMBER = 9,     /* an edge or face number is not below the point count, or equal to another */
     SUMPNEWT_NOT_HELD = 10,      /* no row holds the edge or face */
     SUMPNEWT_NOT_CLOSED = 11,    /* the tetrahedra round the edge do not all close; removal: and are not one open chain
