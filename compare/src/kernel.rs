@@ -1,6 +1,7 @@
 //! The kernel itself, through its C boundary (include/sumpnewt.h): there if compare/archive sumpnewt was run.
 
 use crate::model::{Call, Outcome};
+use std::ptr::null;
 
 pub(crate) mod c {
     extern "C" {
@@ -24,20 +25,11 @@ pub(crate) mod c {
             row: *mut f64,
             row_n: usize,
         ) -> u32;
-        pub fn sumpnewt_flip_32(
+        pub fn sumpnewt_flip(
             block: *const u8,
             n: usize,
-            a: usize,
-            b: usize,
-            out: *mut u8,
-            out_n: usize,
-        ) -> u32;
-        pub fn sumpnewt_flip_23(
-            block: *const u8,
-            n: usize,
-            u: usize,
-            v: usize,
-            w: usize,
+            numbers: *const usize,
+            count: usize,
             out: *mut u8,
             out_n: usize,
         ) -> u32;
@@ -72,14 +64,12 @@ pub fn page(block: &[u8], [a, b]: [usize; 2], row: &mut [f64]) -> u32 {
     unsafe { c::sumpnewt_page(bytes, n, a, b, row.as_mut_ptr(), row.len()) }
 }
 
-pub fn flip_32(block: &[u8], [a, b]: [usize; 2], out: &mut [u8]) -> u32 {
+/// No numbers go as a null pointer.
+pub fn flip(block: &[u8], numbers: &[usize], out: &mut [u8]) -> u32 {
     let (bytes, n) = (block.as_ptr(), block.len());
-    unsafe { c::sumpnewt_flip_32(bytes, n, a, b, out.as_mut_ptr(), out.len()) }
-}
-
-pub fn flip_23(block: &[u8], [u, v, w]: [usize; 3], out: &mut [u8]) -> u32 {
-    let (bytes, n) = (block.as_ptr(), block.len());
-    unsafe { c::sumpnewt_flip_23(bytes, n, u, v, w, out.as_mut_ptr(), out.len()) }
+    let first = numbers.first().map_or(null(), |_| numbers.as_ptr());
+    let count = numbers.len();
+    unsafe { c::sumpnewt_flip(bytes, n, first, count, out.as_mut_ptr(), out.len()) }
 }
 
 /// The kernel's outcome of a call; none for a printout, which is the program's.
@@ -105,16 +95,11 @@ pub fn run(call: &Call) -> Option<Outcome> {
             let number = page(&block, ends, &mut row);
             Outcome::Page(number, row.into_iter().map(f64::to_bits).collect())
         }
-        Call::Flip32 {
+        Call::Flip {
             block,
-            ends,
+            numbers,
             mut out,
-        } => Outcome::Bytes(flip_32(&block, ends, &mut out), out),
-        Call::Flip23 {
-            block,
-            face,
-            mut out,
-        } => Outcome::Bytes(flip_23(&block, face, &mut out), out),
+        } => Outcome::Bytes(flip(&block, &numbers, &mut out), out),
         Call::Printout { .. } => return None,
     })
 }

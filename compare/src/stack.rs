@@ -13,18 +13,14 @@ use crate::model::Call;
 use std::arch::asm;
 
 /// The calls by their names in the header, behind SUMPNEWT_STACK_ and in its order.
-pub const NAMES: [&str; 8] = [
-    "OPEN", "SEAL", "SUMMARY", "SHOWN", "REMOVE", "PAGE", "FLIP_32", "FLIP_23",
-];
+pub const NAMES: [&str; 7] = ["OPEN", "SEAL", "SUMMARY", "SHOWN", "REMOVE", "PAGE", "FLIP"];
 
-/// The bytes of a painted piece, and those of them that are the call's stack. What is above is the caller's: there x86-64
-/// looks for a seventh argument.
+/// The bytes of a painted piece.
 const PIECE: usize = 1 << 15;
-const STACK: usize = PIECE - 16;
 /// A byte that a call writes differs from one of them.
 const PAINTS: [u8; 2] = [0xA5, 0x5A];
-/// The most arguments that a call has.
-const ARGUMENTS: usize = 7;
+/// The most arguments that a call has; both processors have a register for each.
+const ARGUMENTS: usize = 6;
 
 /// A stack has its frames at addresses that 16 divides.
 #[repr(align(16))]
@@ -38,12 +34,13 @@ struct Callee {
 }
 
 impl Callee {
-    /// An input with its length, numbers, an output with its length; a function that takes fewer does not look at the rest.
-    fn new<T>(function: *const (), input: &[u8], numbers: &[usize], output: &mut [T]) -> Callee {
+    /// An input with its length, what comes between, an output with its length; a function that takes fewer does not look at
+    /// the rest.
+    fn new<T>(function: *const (), input: &[u8], between: &[usize], output: &mut [T]) -> Callee {
         let before = [input.as_ptr() as usize, input.len()];
         let behind = [output.as_mut_ptr() as usize, output.len()];
         let mut arguments = [0; ARGUMENTS];
-        let given = [&before, numbers, &behind].concat();
+        let given = [&before, between, &behind].concat();
         arguments[..given.len()].copy_from_slice(&given);
         Callee {
             function,
@@ -78,13 +75,14 @@ impl Callee {
                 let function = c::sumpnewt_page as *const ();
                 ("PAGE", Callee::new(function, block, ends, row))
             }
-            Call::Flip32 { block, ends, out } => {
-                let function = c::sumpnewt_flip_32 as *const ();
-                ("FLIP_32", Callee::new(function, block, ends, out))
-            }
-            Call::Flip23 { block, face, out } => {
-                let function = c::sumpnewt_flip_23 as *const ();
-                ("FLIP_23", Callee::new(function, block, face, out))
+            Call::Flip {
+                block,
+                numbers,
+                out,
+            } => {
+                let function = c::sumpnewt_flip as *const ();
+                let numbers = [numbers.as_ptr() as usize, numbers.len()];
+                ("FLIP", Callee::new(function, block, &numbers, out))
             }
             Call::Printout { .. } => return None,
         })
@@ -101,17 +99,17 @@ impl Callee {
 
     unsafe fn depth_in(self, paint: u8) -> usize {
         let mut piece = Box::new(Piece([paint; PIECE]));
-        unsafe { self.called_on(piece.0.as_mut_ptr().add(STACK)) };
-        let mut stack = piece.0[..STACK].iter();
-        let lowest = stack.position(|byte| *byte != paint).unwrap_or(STACK);
+        unsafe { self.called_on(piece.0.as_mut_ptr().add(PIECE)) };
+        let mut stack = piece.0.iter();
+        let lowest = stack.position(|byte| *byte != paint).unwrap_or(PIECE);
         assert!(lowest > 0, "the call needs more than the painted piece");
-        STACK - lowest
+        PIECE - lowest
     }
 
     /// Calls it with this stack pointer.
     #[cfg(target_arch = "aarch64")]
     unsafe fn called_on(self, top: *mut u8) {
-        let [first, second, third, fourth, fifth, sixth, seventh] = self.arguments;
+        let [first, second, third, fourth, fifth, sixth] = self.arguments;
         unsafe {
             asm!(
                 "mov x20, sp",
@@ -126,27 +124,24 @@ impl Callee {
                 in("x3") fourth,
                 in("x4") fifth,
                 in("x5") sixth,
-                in("x6") seventh,
                 out("x20") _,
                 clobber_abi("C"),
             );
         }
     }
 
-    /// Calls it with this stack pointer, above which there is room for the seventh argument.
+    /// Calls it with this stack pointer.
     #[cfg(target_arch = "x86_64")]
     unsafe fn called_on(self, top: *mut u8) {
-        let [first, second, third, fourth, fifth, sixth, seventh] = self.arguments;
+        let [first, second, third, fourth, fifth, sixth] = self.arguments;
         unsafe {
             asm!(
                 "mov r12, rsp",
                 "mov rsp, {top}",
-                "mov [rsp], {seventh}",
                 "call {function}",
                 "mov rsp, r12",
                 top = in(reg) top,
                 function = in(reg) self.function,
-                seventh = in(reg) seventh,
                 in("rdi") first,
                 in("rsi") second,
                 in("rdx") third,

@@ -10,7 +10,7 @@ use std::fs;
 
 /// Every name of the header but the bytes of stack, with the model's number, in the header's order: for the answers that in
 /// which they are tested.
-const NAMES: [(&str, usize); 44] = [
+const NAMES: [(&str, usize); 45] = [
     ("BLOCK_BYTES", limits::BLOCK_BYTES),
     ("FIELDS_BYTES", limits::FIELD_BYTES),
     ("SUMMARY_ELEMENTS", SUMMARY_NUMBERS),
@@ -36,6 +36,7 @@ const NAMES: [(&str, usize); 44] = [
     ("COORDINATE", answer::COORDINATE as usize),
     ("ROW", answer::ROW as usize),
     ("FACE_TWICE", answer::FACE_TWICE as usize),
+    ("NOT_TWO_OR_THREE", answer::NOT_TWO_OR_THREE as usize),
     ("BAD_NUMBER", answer::BAD_NUMBER as usize),
     ("NOT_HELD", answer::NOT_HELD as usize),
     ("NOT_CLOSED", answer::OPEN as usize),
@@ -106,6 +107,8 @@ refused blocks: 8 calls
 blocks at every address: 128 calls
 outputs fresh from malloc: 35 calls
 outputs fresh on the stack: 35 calls
+flips with neither two numbers nor three: 312 calls
+flips with a null pointer for no numbers: 4 calls
 ";
 
 #[cfg(kernel)]

@@ -5,7 +5,7 @@ mod common;
 use common::*;
 use compare::gen::cases;
 use compare::model::block::with_sums;
-use compare::model::{answer, flip_23, flip_32, open, remove, seal, summary, Call, Patch};
+use compare::model::{answer, flip, open, remove, seal, summary, Call, Patch};
 
 /// The answers 3 to 8 again, written byte by byte.
 fn expected(fields: &[u8; 508]) -> u32 {
@@ -143,15 +143,15 @@ fn every_length_but_the_right_one_gets_1() {
         assert_eq!(number(summary(block)), meant);
         let mut out = UNTOUCHED;
         assert_eq!(number(remove(block, 0, 1, &mut out)), meant);
-        assert_eq!(flip_32(block, 0, 1, &mut out), meant);
+        assert_eq!(flip(block, &[0, 1], &mut out), meant);
         assert_eq!(seal(block, &mut out), u32::from(length != 508));
         let mut short = vec![0xA5; length];
         assert_eq!(number(remove(&good, 0, 1, &mut short)), meant);
-        assert_eq!(flip_32(&good, 0, 1, &mut short), meant);
+        assert_eq!(flip(&good, &[0, 1], &mut short), meant);
         assert_eq!(seal(&good[..508], &mut short), meant);
         let face = [2, 3, 4];
         let after = block_a_after().to_bytes();
-        assert_eq!(flip_23(&after, face, &mut short), meant);
+        assert_eq!(flip(&after, &face, &mut short), meant);
         if meant == 1 {
             assert!(short.iter().all(|byte| *byte == 0xA5));
         }
@@ -164,8 +164,9 @@ fn a_length_is_tested_before_the_block() {
     let mut out = UNTOUCHED;
     let mut short = [0xA5; 511];
     assert_eq!(number(remove(&bad, 9, 9, &mut short)), 1);
-    assert_eq!(flip_32(&bad, 9, 9, &mut short), 1);
-    assert_eq!(flip_23(&bad, [9, 9, 9], &mut short), 1);
+    for count in 0..6 {
+        assert_eq!(flip(&bad, &vec![9; count], &mut short), 1);
+    }
     assert_eq!(seal(&bad[..508], &mut short), 1);
     assert_eq!(number(remove(&bad, 9, 9, &mut out)), 3);
 }

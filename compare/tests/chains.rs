@@ -159,13 +159,13 @@ fn other_open_cases_and_every_chain_of_a_3_2_flip_get_11() {
     let beside_a_circle = links(&[[20, 21], [21, 22], [22, 20]]);
     for open in [&two_chains, &beside_a_circle] {
         assert_eq!(remove_answer(open, 0, 1), answer::OPEN);
-        assert_eq!(flip_32_answer(open, 0, 1), answer::OPEN);
+        assert_eq!(flip_answer(open, &[0, 1]), answer::OPEN);
     }
     for m in [2, 3, 4, 11] {
-        assert_eq!(flip_32_answer(&chain(m, true), 0, 1), answer::OPEN);
-        assert_eq!(flip_32_answer(&chain(m, false), 0, 1), answer::OPEN);
+        assert_eq!(flip_answer(&chain(m, true), &[0, 1]), answer::OPEN);
+        assert_eq!(flip_answer(&chain(m, false), &[0, 1]), answer::OPEN);
     }
-    assert_eq!(flip_32_answer(&plate(), 0, 1), answer::OPEN);
+    assert_eq!(flip_answer(&plate(), &[0, 1]), answer::OPEN);
 }
 
 #[test]

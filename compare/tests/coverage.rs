@@ -7,7 +7,7 @@ use std::sync::LazyLock;
 static TALLY: LazyLock<Tally> = LazyLock::new(|| Tally::of(cases(1, 28_000)));
 
 /// The answers each call can get.
-const POSSIBLE: [(&str, &[usize]); 9] = [
+const POSSIBLE: [(&str, &[usize]); 10] = [
     ("open", &[0, 1, 2, 3, 4, 5, 6, 7, 8]),
     ("seal", &[0, 1, 3, 4, 5, 6, 7, 8]),
     ("summary", &[0, 1, 2, 3, 4, 5, 6, 7, 8]),
@@ -23,6 +23,7 @@ const POSSIBLE: [(&str, &[usize]); 9] = [
         "flip 2-3",
         &[0, 1, 2, 3, 4, 5, 6, 7, 8, 9, 10, 11, 14, 15, 18],
     ),
+    ("flip, other count", &[1, 2, 3, 4, 5, 6, 7, 8, 21]),
 ];
 
 const REMOVAL: [usize; 18] = [0, 1, 2, 3, 4, 5, 6, 7, 8, 9, 10, 11, 12, 13, 14, 15, 16, 19];

@@ -6,8 +6,8 @@ mod common;
 use common::commands::*;
 use compare::model::limits::{BLOCK_BYTES, POINT_COUNT_AT};
 use compare::vectors::{
-    folder, ANSWER_AT, CALLS, CALL_AT, CASES, FIGURES_AT, OUTPUT_AT, PRINTOUT, RECORD_BYTES,
-    RING_AT,
+    folder, ANSWER_AT, CALLS, CALL_AT, CASES, COUNT_AT, FIGURES_AT, OUTPUT_AT, PRINTOUT,
+    RECORD_BYTES, RING_AT,
 };
 use std::collections::{BTreeMap, BTreeSet};
 use std::env::{consts::ARCH, var_os};
@@ -16,8 +16,8 @@ use std::fs;
 use std::path::{Path, PathBuf};
 use std::process::{Command, Output};
 
-/// The answers of which a case is counted: 0 to 19.
-const ANSWERS: u8 = 20;
+/// The answers of which a case is counted: 0 to 21.
+const ANSWERS: u8 = 22;
 
 /// The program. It is for x86-64; for other processors the toolchain has an emulator.
 fn program() -> Command {
@@ -89,8 +89,8 @@ fn expected(file: &[u8], disagreeing: &BTreeSet<usize>) -> String {
     text + &format!("{cases} cases, {agreeing} agree\n")
 }
 
-/// A call, an answer, and which byte of a record of theirs is changed.
-const DAMAGES: [(&str, u8, usize); 9] = [
+/// A call, an answer, and which byte of a record of theirs is changed: the two numbers of a 13 become three.
+const DAMAGES: [(&str, u8, usize); 11] = [
     ("open", 0, OUTPUT_AT + POINT_COUNT_AT),
     ("seal", 0, OUTPUT_AT + BLOCK_BYTES - 1),
     ("seal", 8, ANSWER_AT),
@@ -98,8 +98,10 @@ const DAMAGES: [(&str, u8, usize); 9] = [
     ("remove", 0, FIGURES_AT),
     ("remove", 0, RING_AT),
     ("remove", 19, ANSWER_AT),
-    ("flip_32", 0, OUTPUT_AT),
-    ("flip_23", 18, OUTPUT_AT),
+    ("flip", 0, OUTPUT_AT),
+    ("flip", 13, COUNT_AT),
+    ("flip", 18, OUTPUT_AT),
+    ("flip", 21, OUTPUT_AT),
 ];
 
 /// Changes a byte of each of these, every time in another record, and gives the numbers of the records.

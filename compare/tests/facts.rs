@@ -5,7 +5,7 @@ mod common;
 use common::*;
 use compare::model::limits::BLOCK_BYTES;
 use compare::model::measure::{badness, determinant, edge_sum, score, Corners};
-use compare::model::{answer, flip_23, remove, seal, Patch, Summary};
+use compare::model::{answer, flip, remove, seal, Patch, Summary};
 
 fn of_rows<T>(patch: &Patch, what: impl Fn(Corners) -> T) -> Vec<T> {
     let corners = patch.rows.iter().map(|row| patch.corners(row));
@@ -78,7 +78,7 @@ fn fact_7_without_its_third_row_19_and_the_3_2_flip_11() {
     let mut open = block_a();
     open.rows.pop();
     assert_eq!(remove_answer(&open, 0, 1), answer::NOT_FLAT);
-    assert_eq!(flip_32_answer(&open, 0, 1), answer::OPEN);
+    assert_eq!(flip_answer(&open, &[0, 1]), answer::OPEN);
 }
 
 #[test]
@@ -103,7 +103,7 @@ fn fact_9_bad_ends_9_and_an_edge_in_no_row_10() {
 #[test]
 fn fact_10_the_2_3_flip_gives_block_a_back() {
     let mut out = [0; BLOCK_BYTES];
-    let number = flip_23(&block_a_after().to_bytes(), [2, 3, 4], &mut out);
+    let number = flip(&block_a_after().to_bytes(), &[2, 3, 4], &mut out);
     assert_eq!((number, out), (answer::DONE, block_a().to_bytes()));
 }
 

@@ -1,30 +1,34 @@
-//! Plain flips: the same bytes for all orders of a face, and the one undoing the other.
+//! Plain flips: the same bytes for all orders of a face, the one undoing the other, and how many numbers there are.
 
 mod common;
 
 use common::*;
 use compare::gen::cases;
-use compare::model::{flip_23, flip_32, open, Call, Patch, Row};
+use compare::model::{answer, flip, open, Call, Patch, Row};
 
 /// The blocks and faces of generated 2-3 flips.
 fn faces(seed: u64, count: u64) -> impl Iterator<Item = (Vec<u8>, [usize; 3])> {
     cases(seed, count).filter_map(|case| match case.call {
-        Call::Flip23 { block, face, out } if out.len() == 512 => Some((block, face)),
+        Call::Flip {
+            block,
+            numbers,
+            out,
+        } if out.len() == 512 => Some((block, numbers.try_into().ok()?)),
         _ => None,
     })
 }
 
-fn flipped(block: &[u8], face: [usize; 3]) -> (u32, [u8; 512]) {
+fn flipped(block: &[u8], numbers: &[usize]) -> (u32, [u8; 512]) {
     let mut out = UNTOUCHED;
-    (flip_23(block, face, &mut out), out)
+    (flip(block, numbers, &mut out), out)
 }
 
 #[test]
 fn all_six_orders_of_a_face_write_the_same_bytes() {
     for (block, [u, v, w]) in faces(7, 8_000) {
-        let one = flipped(&block, [u, v, w]);
+        let one = flipped(&block, &[u, v, w]);
         for order in [[u, w, v], [v, u, w], [v, w, u], [w, u, v], [w, v, u]] {
-            assert_eq!(one, flipped(&block, order));
+            assert_eq!(one, flipped(&block, &order));
         }
     }
 }
@@ -53,7 +57,7 @@ fn pair(patch: &Patch, face: [usize; 3]) -> (Vec<Row>, [usize; 2]) {
 fn a_3_2_flip_undoes_a_2_3_flip() {
     let mut undone = 0;
     for (block, face) in faces(8, 15_000) {
-        let (number, out) = flipped(&block, face);
+        let (number, out) = flipped(&block, &face);
         if number != 0 {
             continue;
         }
@@ -63,8 +67,8 @@ fn a_3_2_flip_undoes_a_2_3_flip() {
         let one_region = rows[0].region == rows[1].region;
         let apart = !before.rows.iter().any(|row| row.holds(&both));
         if one_region && apart {
-            let mut back = UNTOUCHED;
-            assert_eq!(flip_32(&out, a, b, &mut back), 0);
+            let (number, back) = flipped(&out, &[a, b]);
+            assert_eq!(number, 0);
             assert_eq!(tetrahedra(&open(&back).unwrap()), tetrahedra(&before));
             undone += 1;
         }
@@ -75,7 +79,7 @@ fn a_3_2_flip_undoes_a_2_3_flip() {
 #[test]
 fn a_2_3_flip_appends_three_rows_round_the_apexes() {
     for (block, face) in faces(9, 8_000) {
-        let (number, out) = flipped(&block, face);
+        let (number, out) = flipped(&block, &face);
         if number != 0 {
             continue;
         }
@@ -113,8 +117,26 @@ fn answer_18_stands_before_14_and_14_before_15() {
     let one_apex = filled(patch(&points, &two, 0), 60, 7);
     let three = [[0, 2, 3, 4], [1, 2, 4, 3], [0, 1, 3, 6]];
     let mut used = filled(patch(&points, &three, 0), 60, 7);
-    assert_eq!(flipped(&one_apex.to_bytes(), [2, 3, 4]).0, 18);
-    assert_eq!(flipped(&used.to_bytes(), [2, 3, 4]).0, 14);
+    assert_eq!(flipped(&one_apex.to_bytes(), &[2, 3, 4]).0, 18);
+    assert_eq!(flipped(&used.to_bytes(), &[2, 3, 4]).0, 14);
     used.rows.pop();
-    assert_eq!(flipped(&used.to_bytes(), [2, 3, 4]).0, 15);
+    assert_eq!(flipped(&used.to_bytes(), &[2, 3, 4]).0, 15);
+}
+
+/// The numbers of a flip that is done, cut or lengthened to any other count, and numbers of no point.
+#[test]
+fn only_two_numbers_are_an_edge_and_only_three_a_face() {
+    let (three, two) = (block_a().to_bytes(), block_a_after().to_bytes());
+    assert_eq!(flipped(&three, &[0, 1]).0, answer::DONE);
+    assert_eq!(flipped(&two, &[2, 3, 4]).0, answer::DONE);
+    let refused = (answer::NOT_TWO_OR_THREE, UNTOUCHED);
+    for count in (0..40).filter(|count| ![2, 3].contains(count)) {
+        for (block, numbers) in [(&three, &[0, 1][..]), (&two, &[2, 3, 4])] {
+            let again: Vec<usize> = numbers.iter().copied().cycle().take(count).collect();
+            assert_eq!(flipped(block, &again), refused, "{count}");
+            assert_eq!(flipped(block, &vec![usize::MAX; count]), refused, "{count}");
+        }
+    }
+    assert_eq!(flipped(&three, &[0, 1, 2]).0, answer::NOT_ADMISSIBLE);
+    assert_eq!(flipped(&two, &[2, 3]).0, answer::OPEN);
 }

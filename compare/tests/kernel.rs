@@ -22,7 +22,7 @@ mod held {
     /// Generated cases of the gate; `hold` takes any number.
     const CASES: u64 = 36_000;
     /// The calls that a block is tried with.
-    const CALLS: u64 = 8;
+    const CALLS: u64 = 9;
     /// More than a block and its output together.
     const LENGTHS: usize = 1_100;
 
@@ -91,10 +91,9 @@ mod held {
             for call in &mut calls {
                 match call {
                     Call::Open { .. } => {}
-                    Call::Seal { out, .. }
-                    | Call::Remove { out, .. }
-                    | Call::Flip32 { out, .. }
-                    | Call::Flip23 { out, .. } => *out = long[..length].to_vec(),
+                    Call::Seal { out, .. } | Call::Remove { out, .. } | Call::Flip { out, .. } => {
+                        *out = long[..length].to_vec()
+                    }
                     Call::Summary { out, .. } => *out = vec![9; length],
                     Call::Shown { out, .. } => *out = vec![9.0; length],
                     Call::Page { row, .. } => *row = vec![9.0; length],

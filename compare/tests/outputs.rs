@@ -9,10 +9,9 @@ use compare::model::{open, run, summary, Call, Outcome, Patch};
 
 fn came_with(call: &Call) -> Outcome {
     match call.clone() {
-        Call::Seal { out, .. }
-        | Call::Remove { out, .. }
-        | Call::Flip32 { out, .. }
-        | Call::Flip23 { out, .. } => Outcome::Bytes(0, out),
+        Call::Seal { out, .. } | Call::Remove { out, .. } | Call::Flip { out, .. } => {
+            Outcome::Bytes(0, out)
+        }
         Call::Summary { out, .. } => Outcome::Numbers(0, out),
         Call::Shown { out, .. } => Outcome::Shown(0, out.into_iter().map(f64::to_bits).collect()),
         Call::Page { row, .. } => Outcome::Page(0, row.into_iter().map(f64::to_bits).collect()),
@@ -46,11 +45,12 @@ fn a_refusal_leaves_every_element_of_the_output() {
 
 /// The rows of the input that the call does not touch.
 fn untouched(call: &Call, before: &Patch) -> Patch {
-    let touched: Vec<u8> = match call {
-        Call::Remove { ends, .. } | Call::Flip32 { ends, .. } => ends.map(|n| n as u8).to_vec(),
-        Call::Flip23 { face, .. } => face.map(|n| n as u8).to_vec(),
+    let numbers: &[usize] = match call {
+        Call::Remove { ends, .. } => ends,
+        Call::Flip { numbers, .. } => numbers,
         _ => unreachable!("calls that write a block"),
     };
+    let touched: Vec<u8> = numbers.iter().map(|n| *n as u8).collect();
     let mut kept = before.clone();
     kept.rows.retain(|row| !row.holds(&touched));
     kept
@@ -60,9 +60,7 @@ fn untouched(call: &Call, before: &Patch) -> Patch {
 fn a_written_block_keeps_points_kept_rows_mesh_rule_and_total_d() {
     for case in cases(13, 4_000) {
         let block = match &case.call {
-            Call::Remove { block, .. }
-            | Call::Flip32 { block, .. }
-            | Call::Flip23 { block, .. } => block,
+            Call::Remove { block, .. } | Call::Flip { block, .. } => block,
             _ => continue,
         };
         let Outcome::Bytes(0, out) = run(&case.call) else {

@@ -4,7 +4,7 @@ mod common;
 
 use common::*;
 use compare::model::block::with_sums;
-use compare::model::{answer, flip_23, flip_32, open, seal, Patch};
+use compare::model::{answer, flip, open, seal, Patch};
 
 /// One way to spoil the fields of block A for each of the answers 3 to 8.
 fn spoil(fields: &mut [u8; 508], number: u32) {
@@ -40,15 +40,46 @@ fn of_two_faults_in_a_block_the_smaller_number_wins() {
 }
 
 #[test]
-fn a_bad_block_comes_before_a_bad_edge_or_face() {
+fn a_bad_block_comes_before_bad_numbers_and_a_bad_count_of_them() {
     let mut fields = block_a().to_fields();
     spoil(&mut fields, answer::FACE_TWICE);
     let block = with_sums(&fields);
     let mut out = UNTOUCHED;
     let removal = compare::model::remove(&block, 9, 9, &mut out);
     assert_eq!(removal.err(), Some(answer::FACE_TWICE));
-    assert_eq!(flip_32(&block, 9, 9, &mut out), answer::FACE_TWICE);
-    assert_eq!(flip_23(&block, [9, 9, 9], &mut out), answer::FACE_TWICE);
+    for count in 0..6 {
+        assert_eq!(flip(&block, &vec![9; count], &mut out), answer::FACE_TWICE);
+    }
+}
+
+#[test]
+fn a_wrong_count_comes_behind_every_fault_of_a_block() {
+    let mut out = UNTOUCHED;
+    for number in 3..=8 {
+        let mut fields = block_a().to_fields();
+        spoil(&mut fields, number);
+        let mut block = with_sums(&fields);
+        for numbers in [&[][..], &[0], &[9], &[0, 1, 2, 3], &[0, 1, 2, 9]] {
+            assert_eq!(flip(&block, numbers, &mut out), number);
+            assert_eq!(flip(&block[..511], numbers, &mut out), answer::LENGTH);
+            assert_eq!(flip(&block, numbers, &mut out[..511]), answer::LENGTH);
+        }
+        block[510] ^= 1;
+        assert_eq!(flip(&block, &[], &mut out), answer::SUM);
+    }
+}
+
+#[test]
+fn a_wrong_count_comes_before_a_bad_number() {
+    let block = block_a().to_bytes();
+    let mut out = UNTOUCHED;
+    for bad in [5, 64, 256, 1 << 32, usize::MAX] {
+        for numbers in [&[bad][..], &[bad; 4], &[0, 1, 2, bad], &[bad; 40]] {
+            assert_eq!(flip(&block, numbers, &mut out), answer::NOT_TWO_OR_THREE);
+        }
+        assert_eq!(flip(&block, &[0, bad], &mut out), answer::BAD_NUMBER);
+        assert_eq!(flip(&block, &[0, 1, bad], &mut out), answer::BAD_NUMBER);
+    }
 }
 
 /// 64 points and rows (0,1,v,w) for these links.
@@ -116,10 +147,8 @@ fn numbers_are_taken_whole() {
         let after = block_a_after().to_bytes();
         let mut out = UNTOUCHED;
         let face = [2, 3, wide + 4];
-        assert_eq!(flip_23(&after, face, &mut out), answer::BAD_NUMBER);
-        assert_eq!(
-            flip_32(&block_a().to_bytes(), wide, 1, &mut out),
-            answer::BAD_NUMBER
-        );
+        assert_eq!(flip(&after, &face, &mut out), answer::BAD_NUMBER);
+        let before = block_a().to_bytes();
+        assert_eq!(flip(&before, &[wide, 1], &mut out), answer::BAD_NUMBER);
     }
 }

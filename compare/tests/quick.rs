@@ -77,9 +77,12 @@ fn another_length_has_no_quality() {
 /// The block and the ends of every case about an edge, with the output as it comes.
 fn edges(seed: u64, count: u64) -> impl Iterator<Item = (Vec<u8>, [usize; 2], Vec<u8>)> {
     cases(seed, count).filter_map(|case| match case.call {
-        Call::Remove { block, ends, out } | Call::Flip32 { block, ends, out } => {
-            Some((block, ends, out))
-        }
+        Call::Remove { block, ends, out } => Some((block, ends, out)),
+        Call::Flip {
+            block,
+            numbers,
+            out,
+        } => Some((block, numbers.try_into().ok()?, out)),
         Call::Page { block, ends, .. } => Some((block, ends, vec![0xA5; BLOCK_BYTES])),
         Call::Printout { input } if input.len() > BLOCK_BYTES + 1 => {
             let ends = [input[BLOCK_BYTES], input[BLOCK_BYTES + 1]].map(usize::from);

@@ -121,6 +121,11 @@ mod reached {
         matches!(call, Call::Remove { .. })
     }
 
+    /// Whether a call is a flip with so many numbers.
+    fn flips(call: &Call, count: usize) -> bool {
+        matches!(call, Call::Flip { numbers, .. } if numbers.len() == count)
+    }
+
     #[test]
     fn every_outcome_of_a_removal() {
         let outcomes = [answer::DONE, answer::NOT_ADMISSIBLE, answer::NONE_BETTER];
@@ -137,11 +142,11 @@ mod reached {
         let outcomes = BTreeSet::from([answer::DONE, answer::NOT_ADMISSIBLE]);
         let three =
             |patch: &Patch, edge: Option<Site>| patch.rows.len() == 60 && has(edge, true, 3);
-        let is_flip = |call: &Call| matches!(call, Call::Flip32 { .. });
-        assert_eq!(answers(three, is_flip), outcomes);
+        assert_eq!(answers(three, |call| flips(call, 2)), outcomes);
         let with_room = |patch: &Patch, _: Option<Site>| patch.rows.len() == 59;
-        let is_flip = |call: &Call| matches!(call, Call::Flip23 { .. });
-        assert_eq!(answers(with_room, is_flip), outcomes);
+        assert_eq!(answers(with_room, |call| flips(call, 3)), outcomes);
+        let refused = BTreeSet::from([answer::NOT_TWO_OR_THREE]);
+        assert_eq!(answers(|_, _| true, |call| flips(call, 4)), refused);
     }
 
     /// The places i, k, j of the triangles of an accepted removal, as they were written.

@@ -6,14 +6,13 @@ mod common;
 use common::*;
 use compare::gen::{cases, Random};
 use compare::model::removal::removal;
-use compare::model::{flip_32, run, Call, Outcome, Row, Summary};
+use compare::model::{flip, run, Call, Outcome, Row, Summary};
 
 fn swapped(call: &Call) -> Option<Call> {
     let mut other = call.clone();
     match &mut other {
-        Call::Remove { ends, .. } | Call::Page { ends, .. } | Call::Flip32 { ends, .. } => {
-            ends.reverse();
-        }
+        Call::Remove { ends, .. } | Call::Page { ends, .. } => ends.reverse(),
+        Call::Flip { numbers, .. } => numbers.reverse(),
         Call::Printout { input } => {
             let last = input.len().checked_sub(1)?;
             input.swap(last.checked_sub(1)?, last);
@@ -24,7 +23,7 @@ fn swapped(call: &Call) -> Option<Call> {
 }
 
 #[test]
-fn either_order_of_the_ends_has_the_same_outcome() {
+fn either_order_of_the_numbers_has_the_same_outcome() {
     let right_length = |call: &Call| match call {
         Call::Printout { input } => input.len() == 514,
         _ => true,
@@ -87,7 +86,7 @@ fn the_3_2_flip_writes_what_the_removal_of_a_ring_of_3_writes() {
         let held = patch.rows.iter().filter(|row| holds(row, a, b)).count();
         if let Ok(removal) = removal(patch, a, b) {
             let mut out = UNTOUCHED;
-            let number = flip_32(&block, a, b, &mut out);
+            let number = flip(&block, &[a, b], &mut out);
             match (removal.ring.len() == held, held) {
                 (true, 3) => {
                     assert_eq!((number, out), (0, removal.after.to_bytes()));

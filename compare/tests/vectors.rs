@@ -2,8 +2,10 @@
 
 use compare::gen::Case;
 use compare::model::{run, Outcome};
+use compare::rivals::{FAULTS, FLIP_FAULTS};
+use compare::tally::name;
 use compare::vectors::{
-    cases_file, folder, picked, place, printout, reasons, CALLS, CASES, PRINTOUT, RECORD_BYTES,
+    cases_file, folder, picked, printout, reasons, CASES, PRINTOUT, RECORD_BYTES,
 };
 use std::collections::{BTreeMap, BTreeSet};
 use std::fs;
@@ -20,15 +22,28 @@ static SHOWN: LazyLock<BTreeMap<String, usize>> = LazyLock::new(|| {
     shown
 });
 
-/// The answers each call can give.
-const POSSIBLE: [&[u32]; CALLS.len()] = [
-    &[0, 1, 2, 3, 4, 5, 6, 7, 8],
-    &[0, 1, 3, 4, 5, 6, 7, 8],
-    &[0, 1, 2, 3, 4, 5, 6, 7, 8],
-    &[0, 1, 2, 3, 4, 5, 6, 7, 8, 9, 10, 11, 12, 13, 14, 15, 16, 19],
-    &[0, 1, 2, 3, 4, 5, 6, 7, 8, 9, 10, 11, 12, 13, 15],
-    &[0, 1, 2, 3, 4, 5, 6, 7, 8, 9, 10, 11, 14, 15, 18],
+/// The answers each call can give, a flip by the count of its numbers.
+const POSSIBLE: [(&str, &[u32]); 7] = [
+    ("open", &[0, 1, 2, 3, 4, 5, 6, 7, 8]),
+    ("seal", &[0, 1, 3, 4, 5, 6, 7, 8]),
+    ("summary", &[0, 1, 2, 3, 4, 5, 6, 7, 8]),
+    (
+        "remove",
+        &[0, 1, 2, 3, 4, 5, 6, 7, 8, 9, 10, 11, 12, 13, 14, 15, 16, 19],
+    ),
+    (
+        "flip 3-2",
+        &[0, 1, 2, 3, 4, 5, 6, 7, 8, 9, 10, 11, 12, 13, 15],
+    ),
+    (
+        "flip 2-3",
+        &[0, 1, 2, 3, 4, 5, 6, 7, 8, 9, 10, 11, 14, 15, 18],
+    ),
+    ("flip, other count", &[1, 2, 3, 4, 5, 6, 7, 8, 21]),
 ];
+
+/// Those that can be done.
+const DONE: [&str; 6] = ["open", "seal", "summary", "remove", "flip 3-2", "flip 2-3"];
 
 /// Two cases or more show it.
 fn shows(reason: &str) {
@@ -50,13 +65,14 @@ fn the_stored_files_are_what_the_model_writes() {
     let expected = fs::read_to_string(folder().join(PRINTOUT)).expect("the printout");
     assert_eq!(expected, printout(&STORED));
     assert_eq!(cases.len(), STORED.len() * RECORD_BYTES);
-    assert!(cases.len() <= 400_000, "{} bytes", cases.len());
+    assert!(cases.len() <= 425_000, "{} bytes", cases.len());
 }
 
 #[test]
 fn every_call_gives_every_answer_it_can() {
-    let given: BTreeSet<(usize, u32)> = STORED.iter().map(|case| place(&case.call)).collect();
-    let possible = (0..).zip(POSSIBLE);
+    let place = |case: &Case| (name(&case.call), run(&case.call).answer());
+    let given: BTreeSet<(&str, u32)> = STORED.iter().map(place).collect();
+    let possible = POSSIBLE.into_iter();
     let possible = possible.flat_map(|(call, answers)| answers.iter().map(move |n| (call, *n)));
     assert_eq!(given, possible.collect());
 }
@@ -109,34 +125,47 @@ fn chains_are_flat_bent_shut_and_not_alone() {
 
 #[test]
 fn lengths_orders_and_numbers_are_wrong_and_right_in_every_way() {
-    for call in CALLS {
+    for call in DONE {
         shows(&format!("{call}: input too short"));
         shows(&format!("{call}: input too long"));
     }
-    for call in ["seal", "remove", "flip_32", "flip_23"] {
+    for call in ["seal", "remove", "flip 3-2", "flip 2-3"] {
         shows(&format!("{call}: output too short"));
         shows(&format!("{call}: output too long"));
     }
-    for call in ["remove", "flip_32"] {
+    for part in ["input", "output"] {
+        shows_often(&format!("flip, other count: {part} too short"), 1);
+        shows_often(&format!("flip, other count: {part} too long"), 1);
+    }
+    for call in ["remove", "flip 3-2"] {
         shows(&format!("{call}: given in order [0, 1]"));
         shows(&format!("{call}: given in order [1, 0]"));
     }
     for order in [
         "0, 1, 2", "0, 2, 1", "1, 0, 2", "1, 2, 0", "2, 0, 1", "2, 1, 0",
     ] {
-        shows(&format!("flip_23: given in order [{order}]"));
+        shows(&format!("flip 2-3: given in order [{order}]"));
     }
-    for call in ["remove", "flip_32", "flip_23"] {
+    for call in ["remove", "flip 3-2", "flip 2-3"] {
         shows(&format!("{call}: a number over 255"));
     }
 }
 
 #[test]
+fn counts_of_numbers_are_wrong_with_and_without_a_bad_number() {
+    shows("21: 0 numbers, all of points");
+    for count in [1, 4] {
+        shows(&format!("21: {count} numbers, all of points"));
+        shows(&format!("21: {count} numbers, not all of points"));
+    }
+}
+
+#[test]
 fn tables_are_empty_full_flat_and_inverted() {
-    for call in CALLS {
+    for call in DONE {
         shows(&format!("{call}: an inverted row"));
     }
-    for call in ["open", "seal", "summary", "remove", "flip_32"] {
+    for call in ["open", "seal", "summary", "remove", "flip 3-2"] {
         shows(&format!("{call}: a flat row"));
         shows(&format!("{call}: 60 rows"));
     }
@@ -145,7 +174,7 @@ fn tables_are_empty_full_flat_and_inverted() {
         shows(&format!("{call}: no upright row"));
         shows(&format!("{call}: every row upright"));
     }
-    shows("flip_23: 59 rows");
+    shows("flip 2-3: 59 rows");
 }
 
 #[test]
@@ -160,8 +189,11 @@ fn the_page_row_has_every_sign() {
 #[test]
 fn every_wrong_kernel_is_told_apart() {
     let told = SHOWN.keys().filter(|reason| reason.starts_with("not "));
-    assert_eq!(told.count(), compare::rivals::FAULTS.len());
-    for fault in compare::rivals::FAULTS {
+    assert_eq!(told.count(), FAULTS.len() + FLIP_FAULTS.len());
+    for fault in FAULTS {
+        shows(&format!("not {fault:?}"));
+    }
+    for fault in FLIP_FAULTS {
         shows(&format!("not {fault:?}"));
     }
 }

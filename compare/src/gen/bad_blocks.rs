@@ -179,15 +179,20 @@ fn any_call(random: &mut Random, block: Vec<u8>) -> Call {
             ends,
             row: vec![f64::from(random.byte()); PAGE_NUMBERS],
         },
-        4 => Call::Flip32 { block, ends, out },
-        5 => Call::Flip23 {
-            block,
-            face: [x, y, z],
-            out,
-        },
+        4 => flip(block, &ends, out),
+        5 => flip(block, &[x, y, z], out),
         _ => Call::Printout {
             input: [&block[..], &[x as u8, y as u8]].concat(),
         },
+    }
+}
+
+fn flip(block: Vec<u8>, numbers: &[usize], out: Vec<u8>) -> Call {
+    let numbers = numbers.to_vec();
+    Call::Flip {
+        block,
+        numbers,
+        out,
     }
 }
 
@@ -235,12 +240,8 @@ pub fn lengths(random: &mut Random) -> (Call, Option<u32>) {
             ends,
             row: vec![7.0; length(PAGE_NUMBERS, wrong_two, !in_block)],
         },
-        4 => Call::Flip32 { block, ends, out },
-        5 => Call::Flip23 {
-            block,
-            face: [0, 1, 2],
-            out,
-        },
+        4 => flip(block, &ends, out),
+        5 => flip(block, &[0, 1, 2], out),
         _ if random.percent(50) => Call::Remove { block, ends, out },
         _ => {
             block.resize(wrong_input, 0);

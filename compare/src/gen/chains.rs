@@ -109,7 +109,7 @@ fn asked(random: &mut Random, scene: Scene, meant: Option<u32>) -> (Call, Option
     let finished = scene.finish(random, Naming::Any, 3);
     let call = edge_call(random, &finished);
     match call {
-        Call::Flip32 { .. } => (call, Some(answer::OPEN)),
+        Call::Flip { .. } => (call, Some(answer::OPEN)),
         _ => (call, meant),
     }
 }

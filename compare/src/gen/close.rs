@@ -52,7 +52,7 @@ fn ring_of(
     let finished = scene.finish(random, naming, 3);
     let call = edge_call(random, &finished);
     match call {
-        Call::Flip32 { .. } => (call, Some(answer::RING_LENGTH)),
+        Call::Flip { .. } => (call, Some(answer::RING_LENGTH)),
         _ => (call, Some(meant)),
     }
 }

@@ -33,10 +33,17 @@ pub fn deep_calls() -> impl Iterator<Item = Call> {
 
 fn site_of(call: &Call) -> Option<Site> {
     match call {
-        Call::Remove { block, ends, .. }
-        | Call::Page { block, ends, .. }
-        | Call::Flip32 { block, ends, .. } => Some((block.clone(), with_third(*ends))),
-        Call::Flip23 { block, face, .. } => Some((block.clone(), *face)),
+        Call::Remove { block, ends, .. } | Call::Page { block, ends, .. } => {
+            Some((block.clone(), with_third(*ends)))
+        }
+        Call::Flip { block, numbers, .. } => {
+            let numbers = match numbers[..] {
+                [a, b] => with_third([a, b]),
+                [u, v, w] => [u, v, w],
+                _ => return None,
+            };
+            Some((block.clone(), numbers))
+        }
         _ => None,
     }
 }

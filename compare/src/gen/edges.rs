@@ -102,10 +102,12 @@ pub fn not_held(random: &mut Random) -> (Call, Option<u32>) {
     fill(&mut scene, random, rows, None);
     let finished = scene.finish(random, Naming::Any, 0);
     if random.percent(30) {
-        let ends = finished.ends(random);
-        let out = any_out(random);
-        let block = finished.block();
-        return (Call::Flip32 { block, ends, out }, Some(answer::NOT_HELD));
+        let call = Call::Flip {
+            numbers: finished.ends(random).to_vec(),
+            out: any_out(random),
+            block: finished.block(),
+        };
+        return (call, Some(answer::NOT_HELD));
     }
     (edge_call(random, &finished), Some(answer::NOT_HELD))
 }

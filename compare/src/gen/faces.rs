@@ -34,9 +34,9 @@ fn two_rows(random: &mut Random) -> Scene {
 fn asked(random: &mut Random, finished: &Finished, face: [u8; 3]) -> Call {
     let mut face = face.map(|point| finished.number(point));
     random.shuffle(&mut face);
-    Call::Flip23 {
+    Call::Flip {
         block: finished.block(),
-        face,
+        numbers: face.to_vec(),
         out: any_out(random),
     }
 }
@@ -65,9 +65,9 @@ fn bad_number(random: &mut Random) -> (Call, Option<u32>) {
         4 => face[place] + 256,
         _ => face[place] + (1 << 32),
     };
-    let call = Call::Flip23 {
+    let call = Call::Flip {
         block: finished.block(),
-        face,
+        numbers: face.to_vec(),
         out: any_out(random),
     };
     (call, Some(answer::BAD_NUMBER))

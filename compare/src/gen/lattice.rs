@@ -32,9 +32,9 @@ pub fn lattice(random: &mut Random) -> (Call, Option<u32>) {
     let row = finished.patch.rows[random.below(finished.patch.rows.len())];
     let block = finished.block();
     let call = match random.percent(35) {
-        true => Call::Flip23 {
+        true => Call::Flip {
             block,
-            face: random.pick(&faces(row.numbers)).map(usize::from),
+            numbers: random.pick(&faces(row.numbers)).map(usize::from).to_vec(),
             out: any_out(random),
         },
         false => {

@@ -3,6 +3,7 @@
 mod bad_blocks;
 mod chains;
 mod close;
+mod counts;
 mod deep;
 mod edges;
 mod faces;
@@ -81,11 +82,14 @@ fn drawn(mut number: usize) -> Family {
     unreachable!("the shares make a hundred")
 }
 
-/// The first `count` cases of a seed, each with one more that shows the rows of its block.
+/// The first `count` cases of a seed, each with one more that shows the rows of its block, and every second flip with one of
+/// another count of numbers.
 pub fn cases(seed: u64, count: u64) -> impl Iterator<Item = Case> {
     (0..count).flat_map(move |index| {
         let case = case(seed, index);
-        let shown = shown::shown(&mut Random::of_case(!seed, index), &case);
-        [Some(case), shown].into_iter().flatten()
+        let random = &mut Random::of_case(!seed, index);
+        let shown = shown::shown(random, &case);
+        let other_count = counts::other_count(random, &case);
+        [Some(case), shown, other_count].into_iter().flatten()
     })
 }

@@ -25,7 +25,7 @@ pub fn ring(random: &mut Random) -> (Call, Option<u32>) {
     let meant = (obstacles == Obstacles::Ears).then_some(answer::NOT_ADMISSIBLE);
     let call = edge_call(random, &finished);
     match call {
-        Call::Flip32 { .. } if m != SHORTEST_RING => (call, Some(answer::RING_LENGTH)),
+        Call::Flip { .. } if m != SHORTEST_RING => (call, Some(answer::RING_LENGTH)),
         _ => (call, meant),
     }
 }
@@ -45,8 +45,8 @@ pub fn full_table(random: &mut Random) -> (Call, Option<u32>) {
     let finished = scene.finish(random, Naming::Any, 0);
     let call = edge_call(random, &finished);
     match call {
-        Call::Flip32 { .. } if m != SHORTEST_RING => (call, Some(answer::RING_LENGTH)),
-        Call::Flip32 { .. } => (call, blocked.then_some(answer::NOT_ADMISSIBLE)),
+        Call::Flip { .. } if m != SHORTEST_RING => (call, Some(answer::RING_LENGTH)),
+        Call::Flip { .. } => (call, blocked.then_some(answer::NOT_ADMISSIBLE)),
         _ if rows > most => (call, Some(answer::ROOM)),
         _ => (call, blocked.then_some(answer::NOT_ADMISSIBLE)),
     }
@@ -65,9 +65,9 @@ pub fn three(random: &mut Random) -> (Call, Option<u32>) {
         fill(&mut scene, random, rows, Some(m));
     }
     let finished = scene.finish(random, Naming::Any, 3);
-    let call = Call::Flip32 {
+    let call = Call::Flip {
         block: finished.block(),
-        ends: finished.ends(random),
+        numbers: finished.ends(random).to_vec(),
         out: any_out(random),
     };
     let number = match blocked {
@@ -138,9 +138,9 @@ pub fn edge_call(random: &mut Random, finished: &Finished) -> Call {
 pub fn call_at(random: &mut Random, block: Vec<u8>, ends: [usize; 2]) -> Call {
     let as_bytes = ends.map(u8::try_from);
     match (random.below(10), as_bytes) {
-        (0, _) => Call::Flip32 {
+        (0, _) => Call::Flip {
             block,
-            ends,
+            numbers: ends.to_vec(),
             out: any_out(random),
         },
         (1 | 2, _) => Call::Page {

@@ -29,8 +29,7 @@ fn block_of(call: &Call) -> Option<&[u8]> {
         | Call::Summary { block, .. }
         | Call::Remove { block, .. }
         | Call::Page { block, .. }
-        | Call::Flip32 { block, .. }
-        | Call::Flip23 { block, .. } => Some(block),
+        | Call::Flip { block, .. } => Some(block),
         Call::Seal { .. } | Call::Shown { .. } | Call::Printout { .. } => None,
     }
 }

@@ -2,7 +2,7 @@
 
 use super::answer;
 use super::block::{open, seal};
-use super::flips::{flip_23, flip_32};
+use super::flips::flip;
 use super::limits::{BLOCK_BYTES, FIELD_BYTES, MAX_ROWS};
 use super::measure::PageRow;
 use super::printout::printout;
@@ -58,14 +58,9 @@ pub enum Call {
         ends: [usize; 2],
         row: Vec<f64>,
     },
-    Flip32 {
+    Flip {
         block: Vec<u8>,
-        ends: [usize; 2],
-        out: Vec<u8>,
-    },
-    Flip23 {
-        block: Vec<u8>,
-        face: [usize; 3],
+        numbers: Vec<usize>,
         out: Vec<u8>,
     },
     Printout {
@@ -74,11 +69,16 @@ pub enum Call {
 }
 
 /// Every call but the printout, in the header's order: on a block, or as much of one as there is, with these numbers, the
-/// first two of them the ends of an edge. Each has an output of its own length.
-pub fn calls_on(block: &[u8], [u, v, w]: [usize; 3]) -> [Call; 8] {
+/// first two of them the ends of an edge. Each has an output of its own length. A flip gets two numbers, three, and four.
+pub fn calls_on(block: &[u8], [u, v, w]: [usize; 3]) -> [Call; 9] {
     let block = block.to_vec();
     let out = vec![0xA5; BLOCK_BYTES];
     let ends = [u, v];
+    let flip = |numbers: &[usize]| Call::Flip {
+        block: block.clone(),
+        numbers: numbers.to_vec(),
+        out: out.clone(),
+    };
     [
         Call::Open {
             block: block.clone(),
@@ -105,16 +105,9 @@ pub fn calls_on(block: &[u8], [u, v, w]: [usize; 3]) -> [Call; 8] {
             ends,
             row: vec![-1.5; PAGE_NUMBERS],
         },
-        Call::Flip32 {
-            block: block.clone(),
-            ends,
-            out: out.clone(),
-        },
-        Call::Flip23 {
-            block,
-            face: [u, v, w],
-            out,
-        },
+        flip(&ends),
+        flip(&[u, v, w]),
+        flip(&[u, v, w, u]),
     ]
 }
 
@@ -172,16 +165,11 @@ pub fn run(call: &Call) -> Outcome {
             let number = page_into(&block, ends, &mut row);
             Outcome::Page(number, row.into_iter().map(f64::to_bits).collect())
         }
-        Call::Flip32 {
+        Call::Flip {
             block,
-            ends: [a, b],
+            numbers,
             mut out,
-        } => Outcome::Bytes(flip_32(&block, a, b, &mut out), out),
-        Call::Flip23 {
-            block,
-            face,
-            mut out,
-        } => Outcome::Bytes(flip_23(&block, face, &mut out), out),
+        } => Outcome::Bytes(flip(&block, &numbers, &mut out), out),
         Call::Printout { input } => Outcome::Text(printout(&input)),
     }
 }

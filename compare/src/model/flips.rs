@@ -8,22 +8,12 @@ use super::pieces::ring_admissible;
 use super::ring::site;
 use super::triangulations::{new_rows, ways};
 
-/// "3-2: removal of an edge with m = 3", of a ring alone. Writes the block afterwards and answers 0, or refuses.
-pub fn flip_32(block: &[u8], a: usize, b: usize, out: &mut [u8]) -> u32 {
-    written(block, out, |patch| three_to_two(patch, a, b))
-}
-
-/// "2-3: a face u,v,w in two rows". Writes the block afterwards and answers 0, or refuses.
-pub fn flip_23(block: &[u8], face: [usize; 3], out: &mut [u8]) -> u32 {
-    written(block, out, |patch| two_to_three(patch, face))
-}
-
-/// Lengths first, then the block, then the flip; only answer 0 writes.
-fn written(block: &[u8], out: &mut [u8], flip: impl Fn(&Patch) -> Result<Patch, u32>) -> u32 {
+/// Writes the block afterwards and answers 0, or refuses: lengths first, then the block, then the flip.
+pub fn flip(block: &[u8], numbers: &[usize], out: &mut [u8]) -> u32 {
     if block.len() != BLOCK_BYTES || out.len() != BLOCK_BYTES {
         return answer::LENGTH;
     }
-    match open(block).and_then(|patch| flip(&patch)) {
+    match open(block).and_then(|patch| flipped(&patch, numbers)) {
         Ok(after) => {
             out.copy_from_slice(&after.to_bytes());
             answer::DONE
@@ -32,7 +22,17 @@ fn written(block: &[u8], out: &mut [u8], flip: impl Fn(&Patch) -> Result<Patch, 
     }
 }
 
-/// Answers 9 to 13 and 15. The table gets one row shorter, so 14 never comes.
+/// Two numbers are the ends of an edge, three are a face; any other count is refused, whatever the numbers are.
+fn flipped(patch: &Patch, numbers: &[usize]) -> Result<Patch, u32> {
+    match *numbers {
+        [a, b] => three_to_two(patch, a, b),
+        [u, v, w] => two_to_three(patch, [u, v, w]),
+        _ => Err(answer::NOT_TWO_OR_THREE),
+    }
+}
+
+/// "3-2: removal of an edge with m = 3", of a ring alone: answers 9 to 13 and 15. The table gets one row shorter, so 14
+/// never comes.
 fn three_to_two(patch: &Patch, a: usize, b: usize) -> Result<Patch, u32> {
     let site = site(patch, a, b)?;
     if !site.closed {
@@ -50,7 +50,7 @@ fn three_to_two(patch: &Patch, a: usize, b: usize) -> Result<Patch, u32> {
     Ok(site.patch_after(patch, &new_rows(&site, only_way)))
 }
 
-/// Answers 9, 10, 11, 18, 14 and 15.
+/// "2-3: a face u,v,w in two rows": answers 9, 10, 11, 18, 14 and 15.
 fn two_to_three(patch: &Patch, face: [usize; 3]) -> Result<Patch, u32> {
     let count = patch.points.len();
     let [x, y, z] = face;

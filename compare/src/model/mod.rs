@@ -17,7 +17,7 @@ pub mod triangulations;
 
 pub use block::{open, seal, Patch};
 pub use call::{run, Call, Outcome};
-pub use flips::{flip_23, flip_32};
+pub use flips::flip;
 pub use measure::{PageRow, Point, Quality, Shown};
 pub use mesh::Row;
 pub use printout::printout;

@@ -1,8 +1,10 @@
-//! Removal written a second time, by the published method's tables (Shewchuk 2002), and kernels that get one thing wrong.
+//! Removal written a second time, by the published method's tables (Shewchuk 2002), and kernels that get one thing wrong, of
+//! which `flips` has those of the flip.
 //!
 //! Without a fault it has to agree with `model` on every case. With a fault it shows whether the
 //! cases can tell that wrong kernel from a right one.
 
+mod flips;
 mod order;
 mod table;
 
@@ -10,6 +12,7 @@ use crate::model::limits::{LONGEST_RING, MAX_ROWS, SHORTEST_RING};
 use crate::model::{answer, Patch, Quality, Row};
 use table::Table;
 
+pub use flips::{faulty_flip, FlipFault, FLIP_FAULTS};
 pub use order::whole_part_order;
 
 /// What a rival gets wrong.

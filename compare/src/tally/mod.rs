@@ -6,14 +6,14 @@ use crate::model::mesh::Row;
 use crate::model::removal::worst_removed;
 use crate::model::ring::{site, Site};
 use crate::model::{answer, open, run, Call, Outcome, Patch, Quality};
-use crate::rivals::{removal, Fault, FAULTS};
+use crate::rivals::{faulty_flip, removal, Fault, FAULTS, FLIP_FAULTS};
 use std::collections::BTreeMap;
 
 mod chains;
 mod print;
 
-/// Answers are 0 to 19.
-pub const ANSWERS: usize = 20;
+/// Answers are 0 to 21.
+pub const ANSWERS: usize = 22;
 
 /// Rings of this length and longer share a line, and so do chains.
 const LONGER: usize = LONGEST_RING + 2;
@@ -30,7 +30,7 @@ pub struct Tally {
     pub rings: BTreeMap<usize, Counts>,
     /// Answers of removals whose edge has one open chain, by its length in points.
     pub chains: BTreeMap<usize, Counts>,
-    /// Removals that tell a wrong kernel from the model, by what it gets wrong.
+    /// Removals and flips that tell a wrong kernel from the model, by what it gets wrong.
     pub told: BTreeMap<String, u64>,
     /// Fine points that removals went through.
     pub points: BTreeMap<&'static str, u64>,
@@ -59,6 +59,7 @@ impl Tally {
         }
         self.add_page(&outcome);
         self.add_shown(&case.call, &outcome);
+        self.add_flip_rivals(&case.call, &outcome);
         let Some((block, ends)) = edge_of(&case.call) else {
             return;
         };
@@ -66,7 +67,7 @@ impl Tally {
             return;
         };
         let site = site(&patch, ends[0], ends[1]).ok();
-        let removal = !matches!(case.call, Call::Flip32 { .. }) && number != answer::LENGTH;
+        let removal = !matches!(case.call, Call::Flip { .. }) && number != answer::LENGTH;
         if let (Some(site), true) = (&site, removal) {
             let lengths = match site.closed {
                 true => &mut self.rings,
@@ -75,7 +76,7 @@ impl Tally {
             count(lengths, site.m().min(LONGER), number);
         }
         self.add_all(match case.call {
-            Call::Flip32 { .. } => chains::flip_points(&patch, site.as_ref(), number),
+            Call::Flip { .. } => chains::flip_points(&patch, site.as_ref(), number),
             _ => chains::open_points(&patch, ends, number),
         });
         if let (Call::Remove { out, .. }, Outcome::Bytes(_, bytes)) = (&case.call, &outcome) {
@@ -133,6 +134,23 @@ impl Tally {
         }
         for fault in FAULTS {
             *self.told.entry(format!("{fault:?}")).or_default() += u64::from(differs(fault));
+        }
+    }
+
+    fn add_flip_rivals(&mut self, call: &Call, right: &Outcome) {
+        let Call::Flip {
+            block,
+            numbers,
+            out,
+        } = call
+        else {
+            return;
+        };
+        for fault in FLIP_FAULTS {
+            let mut out = out.clone();
+            let number = faulty_flip(block, numbers, &mut out, fault);
+            let differs = Outcome::Bytes(number, out) != *right;
+            *self.told.entry(format!("{fault:?}")).or_default() += u64::from(differs);
         }
     }
 
@@ -240,6 +258,7 @@ fn count<K: Ord>(table: &mut BTreeMap<K, Counts>, key: K, number: u32) {
     table.entry(key).or_insert([0; ANSWERS])[number as usize] += 1;
 }
 
+/// The name of a call, of a flip by the count of its numbers.
 pub fn name(call: &Call) -> &'static str {
     match call {
         Call::Open { .. } => "open",
@@ -248,8 +267,11 @@ pub fn name(call: &Call) -> &'static str {
         Call::Shown { .. } => "shown",
         Call::Remove { .. } => "remove",
         Call::Page { .. } => "page",
-        Call::Flip32 { .. } => "flip 3-2",
-        Call::Flip23 { .. } => "flip 2-3",
+        Call::Flip { numbers, .. } => match numbers.len() {
+            2 => "flip 3-2",
+            3 => "flip 2-3",
+            _ => "flip, other count",
+        },
         Call::Printout { .. } => "printout",
     }
 }
@@ -257,9 +279,11 @@ pub fn name(call: &Call) -> &'static str {
 /// The block and the ends of a call about an edge.
 fn edge_of(call: &Call) -> Option<(&[u8], [usize; 2])> {
     match call {
-        Call::Remove { block, ends, .. }
-        | Call::Page { block, ends, .. }
-        | Call::Flip32 { block, ends, .. } => Some((block, *ends)),
+        Call::Remove { block, ends, .. } | Call::Page { block, ends, .. } => Some((block, *ends)),
+        Call::Flip { block, numbers, .. } => match numbers[..] {
+            [a, b] => Some((block, [a, b])),
+            _ => None,
+        },
         Call::Printout { input } => {
             let (block, ends) = input.split_at(input.len().checked_sub(2)?);
             Some((block, [ends[0], ends[1]].map(usize::from)))

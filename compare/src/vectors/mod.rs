@@ -6,7 +6,8 @@ mod record;
 
 pub use pick::{picked, reasons};
 pub use record::{
-    record, ANSWER_AT, CALL_AT, FIGURES_AT, OUTPUT_AT, PART_BYTES, RECORD_BYTES, RING_AT,
+    record, ANSWER_AT, CALL_AT, COUNT_AT, FIGURES_AT, MOST_NUMBERS, OUTPUT_AT, PART_BYTES,
+    RECORD_BYTES, RING_AT,
 };
 
 use crate::gen::Case;
@@ -25,13 +26,13 @@ pub const CASES: &str = "data/cases";
 pub const PRINTOUT: &str = "stdout";
 
 /// The kernel's calls, in the order of their numbers in a record.
-pub const CALLS: [&str; 6] = ["open", "seal", "summary", "remove", "flip_32", "flip_23"];
+pub const CALLS: [&str; 5] = ["open", "seal", "summary", "remove", "flip"];
 
 /// What a call of the kernel is given.
 pub struct Given<'a> {
     pub input: &'a [u8],
     pub output: Option<&'a [u8]>,
-    /// The edge or the face.
+    /// The ends of an edge, or the numbers of a flip.
     pub numbers: &'a [usize],
 }
 
@@ -42,8 +43,11 @@ pub fn given(call: &Call) -> Option<Given<'_>> {
         Call::Open { block } | Call::Summary { block, .. } => (block, None, &[]),
         Call::Seal { fields, out } => (fields, Some(out), &[]),
         Call::Remove { block, ends, out } => (block, Some(out), ends),
-        Call::Flip32 { block, ends, out } => (block, Some(out), ends),
-        Call::Flip23 { block, face, out } => (block, Some(out), face),
+        Call::Flip {
+            block,
+            numbers,
+            out,
+        } => (block, Some(out), numbers),
         Call::Shown { .. } | Call::Page { .. } | Call::Printout { .. } => return None,
     };
     Some(Given {
@@ -60,8 +64,7 @@ pub fn call_number(call: &Call) -> usize {
         Call::Seal { .. } => 1,
         Call::Summary { .. } => 2,
         Call::Remove { .. } => 3,
-        Call::Flip32 { .. } => 4,
-        Call::Flip23 { .. } => 5,
+        Call::Flip { .. } => 4,
         Call::Shown { .. } | Call::Page { .. } | Call::Printout { .. } => {
             unreachable!("not in a record")
         }

@@ -1,11 +1,11 @@
 //! Which generated cases are stored: those that show something of which too few are stored yet.
 
-use super::{given, place, CALLS, PART_BYTES};
+use super::{given, place, MOST_NUMBERS, PART_BYTES};
 use crate::gen::{cases, Case};
 use crate::model::call::{PAGE_NUMBERS, SUMMARY_NUMBERS};
 use crate::model::limits::{BLOCK_BYTES, FIELD_BYTES, MAX_ROWS};
 use crate::model::{answer, open, run, Call, Outcome, Patch, Summary};
-use crate::tally::Tally;
+use crate::tally::{name, Tally};
 use std::cmp::Ordering;
 use std::collections::BTreeMap;
 
@@ -13,9 +13,10 @@ use std::collections::BTreeMap;
 const SEED: u64 = 1;
 const COUNT: u64 = 10_000;
 
-/// How many cases show a thing: one for each length and outcome of a chain, which the fine points show again.
+/// How many cases show a thing: one for each length and outcome of a chain, which the fine points show again, and one for each
+/// refusal of a flip before its count is looked at.
 fn wanted(reason: &str) -> usize {
-    match reason.starts_with("chain, m = ") {
+    match reason.starts_with("chain, m = ") || reason.starts_with("flip, other count") {
         true => 1,
         false => 2,
     }
@@ -44,10 +45,8 @@ pub fn picked() -> Vec<Case> {
 fn storable(mut case: Case) -> Option<Case> {
     match &mut case.call {
         Call::Summary { out, .. } if out.len() != SUMMARY_NUMBERS => return None,
-        Call::Seal { out, .. }
-        | Call::Remove { out, .. }
-        | Call::Flip32 { out, .. }
-        | Call::Flip23 { out, .. } => {
+        Call::Flip { numbers, .. } if numbers.len() > MOST_NUMBERS => return None,
+        Call::Seal { out, .. } | Call::Remove { out, .. } | Call::Flip { out, .. } => {
             let filler = out.first().copied().unwrap_or(0);
             out.fill(filler);
         }
@@ -60,8 +59,8 @@ fn storable(mut case: Case) -> Option<Case> {
 
 /// What a case shows, by name.
 pub fn reasons(case: &Case) -> Vec<String> {
-    let (call, number) = place(&case.call);
-    let name = CALLS[call];
+    let (_, number) = place(&case.call);
+    let name = name(&case.call);
     let mut reasons = vec![format!("{name} {number}")];
     let tally = Tally::of([case.clone()].into_iter().chain(page_of(case)));
     for (what, lengths) in [("ring", tally.rings), ("chain", tally.chains)] {
@@ -74,6 +73,9 @@ pub fn reasons(case: &Case) -> Vec<String> {
     reasons.extend(told.map(|(fault, _)| format!("not {fault}")));
     let points = tally.points.into_iter().filter(|(_, seen)| *seen > 0);
     reasons.extend(points.map(|(point, _)| String::from(point)));
+    if number == answer::NOT_TWO_OR_THREE {
+        reasons.push(in_count(&case.call));
+    }
     let inputs = in_inputs(&case.call, number).into_iter();
     reasons.extend(inputs.map(|input| format!("{name}: {input}")));
     reasons
@@ -123,6 +125,17 @@ fn in_length(what: &str, bytes: &[u8], right: usize) -> Option<String> {
         Ordering::Less => Some(format!("{what} too short")),
         Ordering::Equal => None,
         Ordering::Greater => Some(format!("{what} too long")),
+    }
+}
+
+/// How many numbers are neither two nor three, and whether they are all of points.
+fn in_count(call: &Call) -> String {
+    let given = given(call).expect("a call of the kernel");
+    let points = open(given.input).expect("it opens").points.len();
+    let count = given.numbers.len();
+    match given.numbers.iter().all(|number| *number < points) {
+        true => format!("21: {count} numbers, all of points"),
+        false => format!("21: {count} numbers, not all of points"),
     }
 }
 

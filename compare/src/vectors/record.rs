@@ -3,16 +3,17 @@
 //!
 //! | Bytes | Meaning |
 //! |---|---|
-//! | 0 | the call: 0 open, 1 seal, 2 summary, 3 remove, 4 flip_32, 5 flip_23 |
+//! | 0 | the call: 0 open, 1 seal, 2 summary, 3 remove, 4 flip |
 //! | 1 | the answer |
 //! | 2, 3 | bytes of the input |
 //! | 4, 5 | bytes of the output |
 //! | 6 | the byte that fills the output before the call |
 //! | 7 | m |
-//! | 8 to 31 | three numbers of 8 bytes: the edge or the face |
+//! | 8 to 31 | numbers of 8 bytes: the two ends of a removal; or up to four of a flip, the fourth in the bytes 32 to 39 |
 //! | 32 to 87 | seven numbers of 8 bytes: the summary; or two, the bits of the page row |
 //! | 88 to 97 | the ring |
-//! | 98 to 111 | zero |
+//! | 98 | how many numbers a flip is given |
+//! | 99 to 111 | zero |
 //! | 112 to 631 | the input: the block, or what is sealed |
 //! | 632 to 1151 | the output after the call; of `open` the fields, in their places of the block |
 
@@ -31,6 +32,9 @@ pub const ANSWER_AT: usize = 1;
 /// The numbers of a summary, or the bits of the page row.
 pub const FIGURES_AT: usize = 32;
 pub const RING_AT: usize = 88;
+/// How many numbers a flip is given, and the most that a record can hold.
+pub const COUNT_AT: usize = 98;
+pub const MOST_NUMBERS: usize = 4;
 /// The output after the call.
 pub const OUTPUT_AT: usize = INPUT_AT + PART_BYTES;
 
@@ -60,6 +64,9 @@ pub fn record(call: &Call) -> [u8; RECORD_BYTES] {
     let numbers: Vec<u64> = given.numbers.iter().map(|n| *n as u64).collect();
     put(&mut record, NUMBERS_AT, &in_bytes(&numbers));
     put(&mut record, FIGURES_AT, &in_bytes(&gives.figures));
+    if let Call::Flip { numbers, .. } = call {
+        record[COUNT_AT] = numbers.len() as u8;
+    }
     put(&mut record, RING_AT, &gives.ring);
     put(&mut record, INPUT_AT, given.input);
     put(&mut record, OUTPUT_AT, &gives.output);

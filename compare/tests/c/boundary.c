@@ -1,7 +1,7 @@
 /*
  * The C boundary as a stranger would break it: null pointers with length 0, outputs and inputs of every length, memory that
- * was never written, blocks at any address. Prints how many calls each part made. The first call that does not do what
- * sumpnewt.h says is told in one line and ends the program.
+ * was never written, blocks at any address, flips with any count of numbers. Prints how many calls each part made. The first
+ * call that does not do what sumpnewt.h says is told in one line and ends the program.
  *
  * compare/tests/boundary.rs compiles and runs it; docs/TESTS.md has the line for valgrind.
  */
@@ -15,11 +15,13 @@ enum {
     LENGTHS = 1100,   /* the lengths tried are 0 to this: over a block and its output together */
     GUARD = 64,       /* bytes in front of and behind the longest output */
     ADDRESSES = 16,   /* a block is tried at each address of so many in a row */
+    COUNTS = 40,      /* a flip is given up to so many numbers */
     FIRST_END = 0,
     SECOND_END = 1,
     U = 2,
     V = 3,
-    W = 4
+    W = 4,
+    POINTS = 5
 };
 
 /* Three tetrahedra round the edge from point 0 to point 1; what a removal leaves; the first with its version spoiled. */
@@ -63,12 +65,14 @@ static uint32_t paged(const uint8_t *input, size_t n, void *out, size_t out_n) {
     return sumpnewt_page(input, n, FIRST_END, SECOND_END, out, out_n);
 }
 
-static uint32_t flipped_32(const uint8_t *input, size_t n, void *out, size_t out_n) {
-    return sumpnewt_flip_32(input, n, FIRST_END, SECOND_END, out, out_n);
+static uint32_t flipped_edge(const uint8_t *input, size_t n, void *out, size_t out_n) {
+    static const size_t edge[] = {FIRST_END, SECOND_END};
+    return sumpnewt_flip(input, n, edge, 2, out, out_n);
 }
 
-static uint32_t flipped_23(const uint8_t *input, size_t n, void *out, size_t out_n) {
-    return sumpnewt_flip_23(input, n, U, V, W, out, out_n);
+static uint32_t flipped_face(const uint8_t *input, size_t n, void *out, size_t out_n) {
+    static const size_t face[] = {U, V, W};
+    return sumpnewt_flip(input, n, face, 3, out, out_n);
 }
 
 static const struct call calls[] = {
@@ -78,8 +82,8 @@ static const struct call calls[] = {
     {"shown", shown, three, SUMPNEWT_BLOCK_BYTES, SUMPNEWT_SHOWN_ELEMENTS, sizeof(double)},
     {"remove", removed, three, SUMPNEWT_BLOCK_BYTES, SUMPNEWT_BLOCK_BYTES, sizeof(uint8_t)},
     {"page", paged, three, SUMPNEWT_BLOCK_BYTES, SUMPNEWT_PAGE_ELEMENTS, sizeof(double)},
-    {"flip_32", flipped_32, three, SUMPNEWT_BLOCK_BYTES, SUMPNEWT_BLOCK_BYTES, sizeof(uint8_t)},
-    {"flip_23", flipped_23, two, SUMPNEWT_BLOCK_BYTES, SUMPNEWT_BLOCK_BYTES, sizeof(uint8_t)},
+    {"flip of an edge", flipped_edge, three, SUMPNEWT_BLOCK_BYTES, SUMPNEWT_BLOCK_BYTES, sizeof(uint8_t)},
+    {"flip of a face", flipped_face, two, SUMPNEWT_BLOCK_BYTES, SUMPNEWT_BLOCK_BYTES, sizeof(uint8_t)},
 };
 enum { CALLS = sizeof calls / sizeof calls[0] };
 
@@ -220,16 +224,71 @@ static void fresh_stack(const struct call *call) {
     }
 }
 
+/* A flip of any numbers, which is never done if they are neither two nor three. */
+static const size_t *numbers;
+static size_t count;
+
+static uint32_t flipped(const uint8_t *input, size_t n, void *out, size_t out_n) {
+    return sumpnewt_flip(input, n, numbers, count, out, out_n);
+}
+
+static const struct call flip = {"flip", flipped, three, SUMPNEWT_BLOCK_BYTES, SUMPNEWT_BLOCK_BYTES, sizeof(uint8_t)};
+
+/* Only the lengths and the block come before the count. */
+static void wrong_count(void) {
+    expect(&flip, guarded(&flip, three, flip.n, GUARD, flip.out_n), SUMPNEWT_NOT_TWO_OR_THREE, count);
+    expect(&flip, guarded(&flip, spoiled, flip.n, GUARD, flip.out_n), SUMPNEWT_SUM, count);
+    expect(&flip, guarded(&flip, three, flip.n, GUARD, flip.out_n - 1), SUMPNEWT_LENGTH, count);
+    expect(&flip, guarded(&flip, NULL, 0, GUARD, flip.out_n), SUMPNEWT_LENGTH, count);
+}
+
+/* Every count but two and three, each of numbers in a piece of the heap that is just so long: of points, and of none. */
+static void wrong_counts(void) {
+    for (count = 0; count <= COUNTS; count++) {
+        if (count == 2 || count == 3) {
+            continue;
+        }
+        size_t *piece = piece_of_heap(count * sizeof(size_t));
+        numbers = piece;
+        for (size_t place = 0; place < count; place++) {
+            piece[place] = place % POINTS;
+        }
+        wrong_count();
+        for (size_t place = 0; place < count; place++) {
+            piece[place] = SIZE_MAX - place;
+        }
+        wrong_count();
+        free(piece);
+    }
+}
+
+/* No numbers, and no pointer to them. */
+static void no_numbers(void) {
+    numbers = NULL;
+    count = 0;
+    wrong_count();
+}
+
+static void tell(const char *name, size_t before) {
+    printf("%s: %zu calls\n", name, made - before);
+}
+
 static void part(const char *name, void (*tried)(const struct call *call)) {
     size_t before = made;
     for (size_t place = 0; place < CALLS; place++) {
         tried(&calls[place]);
     }
-    printf("%s: %zu calls\n", name, made - before);
+    tell(name, before);
+}
+
+static void flips(const char *name, void (*tried)(void)) {
+    size_t before = made;
+    tried();
+    tell(name, before);
 }
 
 static int blocks_are_made(void) {
-    static const uint8_t points[][SUMPNEWT_POINT_BYTES] = {
+    static const uint8_t points[POINTS][SUMPNEWT_POINT_BYTES] = {
         {4, 4, 12}, {4, 4, 0}, {0, 0, 6}, {12, 0, 6}, {0, 12, 6},
     };
     static const uint8_t rows[][SUMPNEWT_ROW_BYTES] = {
@@ -237,7 +296,7 @@ static int blocks_are_made(void) {
     };
     uint8_t fields[SUMPNEWT_FIELDS_BYTES] = {0};
     fields[SUMPNEWT_VERSION_AT] = SUMPNEWT_VERSION;
-    fields[SUMPNEWT_POINT_COUNT_AT] = sizeof points / sizeof points[0];
+    fields[SUMPNEWT_POINT_COUNT_AT] = POINTS;
     fields[SUMPNEWT_ROW_COUNT_AT] = sizeof rows / sizeof rows[0];
     memcpy(fields + SUMPNEWT_POINTS_AT, points, sizeof points);
     memcpy(fields + SUMPNEWT_ROWS_AT, rows, sizeof rows);
@@ -265,6 +324,8 @@ int main(void) {
     part("blocks at every address", addresses);
     part("outputs fresh from malloc", fresh_heap);
     part("outputs fresh on the stack", fresh_stack);
+    flips("flips with neither two numbers nor three", wrong_counts);
+    flips("flips with a null pointer for no numbers", no_numbers);
 
     if (memcmp(before[0], three, sizeof three) != 0 || memcmp(before[1], two, sizeof two) != 0 ||
         memcmp(before[2], spoiled, sizeof spoiled) != 0) {

@@ -60,10 +60,10 @@ pub fn remove_answer(patch: &Patch, a: usize, b: usize) -> u32 {
     outcome.err().unwrap_or(0)
 }
 
-/// The answer of a 3-2 flip.
-pub fn flip_32_answer(patch: &Patch, a: usize, b: usize) -> u32 {
+/// The answer of a flip.
+pub fn flip_answer(patch: &Patch, numbers: &[usize]) -> u32 {
     let mut out = UNTOUCHED;
-    compare::model::flip_32(&patch.to_bytes(), a, b, &mut out)
+    compare::model::flip(&patch.to_bytes(), numbers, &mut out)
 }
 
 /// The patches and edges of generated removals whose block opens.
