@@ -1,10 +1,13 @@
--- The answer of a call, held against the stored one by its number; one case of several; the three numbers of a face.
+-- The answer of a call, held against the stored one by its number; one case of several; the numbers of a flip.
 use Prim.Native.Nat.{ℕ, zero, suc}
 use mathlib.Core.Path.{_≡_, refl, ap, _∙_}
 use mathlib.Core.Bool.{Bool, true, false, cond, not, _&&_}
+use mathlib.Core.List.{List}
 use lib.Dec.{eqb}
+use lib.ListN.{take}
 use Rattle.answers.specs.declared.Answer.{Answer}
 use Rattle.answers.specs.Answers.{answerOf, numberOf}
+use Rattle.records.specs.Records.{countIn, fourNumbers, numbersIn}
 use Rattle.expected.proofs.TestsInTurn.{fails, passes, failed, passed}
 
 module _ {A : Type 0} where
@@ -16,8 +19,18 @@ module _ {A : Type 0} where
   pub skipped : {t : Bool} (x : A) {y : A} → t ≡ false → y ≡ cond t x y
   skipped x e = rw e
 
-  pub at-three : (f : ℕ → ℕ → ℕ → A) {x y z u v w : ℕ} {r : A} → r ≡ f x y z → x ≡ u → y ≡ v → z ≡ w → r ≡ f u v w
-  at-three f {x} {y} {z} {u} {v} {w} h p q s = h ∙ ap (λ n. f n y z) p ∙ ap (λ n. f u n z) q ∙ ap (f u v) s
+  -- what holds of the numbers that are lent, of those of the record
+  pub at-numbers :
+      (stored : List ℕ)
+      (f : List ℕ → A)
+      {n : ℕ}
+      {four : List ℕ}
+      {r : A}
+      → r ≡ f (take n four)
+      → n ≡ countIn stored
+      → four ≡ fourNumbers stored
+      → r ≡ f (numbersIn stored)
+  at-numbers stored f {n} {four} h p q = h ∙ ap (λ k. f (take k four)) p ∙ ap (λ l. f (take (countIn stored) l)) q
 
 -- the answer with a number has that number
 number-back : (n : ℕ) → numberOf (answerOf n) ≡ n

@@ -6,8 +6,8 @@ use lib.Dec.{eqb}
 use Rattle.block.specs.Opening.{openAnswer, openGives, sealAnswer, sealBytes}
 use Rattle.calls.specs.Summarising.{summaryGives}
 use Rattle.calls.specs.Removing.{removeGives, removeBytes}
-use Rattle.calls.specs.Flipping.{flip32Answer, flip32Bytes, flip23Answer, flip23Bytes}
-use Rattle.records.specs.Records.{callIn, inputIn, outputBefore, answerIn, numberIn}
+use Rattle.calls.specs.Flipping.{flipAnswer, flipBytes}
+use Rattle.records.specs.Records.{callIn, inputIn, outputBefore, answerIn, numberIn, numbersIn}
 use Rattle.expected.specs.Expected.{ringIs, fieldsAre, outputIs}
 use Rattle.figures.specs.Figures.{summarisedIs, removalIs}
 
@@ -29,30 +29,21 @@ removeAgrees stored input out =
     let gives = removeGives input out e f in
     removalIs (gives .removal) stored && (ringIs (gives .ring) stored && outputIs (removeBytes input out e f) stored)
 
-unfoldable pub flip32Agrees : List ℕ → List ℕ → List ℕ → Bool
-flip32Agrees stored input out =
-    let e = numberIn stored 0 in
-    let f = numberIn stored 1 in
-    eqb (flip32Answer input out e f) (answerIn stored) && outputIs (flip32Bytes input out e f) stored
-
-unfoldable pub flip23Agrees : List ℕ → List ℕ → List ℕ → Bool
-flip23Agrees stored input out =
-    let x = numberIn stored 0 in
-    let y = numberIn stored 1 in
-    let z = numberIn stored 2 in
-    eqb (flip23Answer input out x y z) (answerIn stored) && outputIs (flip23Bytes input out x y z) stored
+unfoldable pub flipAgrees : List ℕ → List ℕ → List ℕ → Bool
+flipAgrees stored input out =
+    let numbers = numbersIn stored in
+    eqb (flipAnswer input out numbers) (answerIn stored) && outputIs (flipBytes input out numbers) stored
 
 -- ---- the call of a record
 
--- 0 open, 1 seal, 2 summary, 3 remove, 4 flip_32, 5 flip_23; a number of no call agrees with nothing
+-- 0 open, 1 seal, 2 summary, 3 remove, 4 flip; a number of no call agrees with nothing
 unfoldable pub callAgrees : List ℕ → List ℕ → List ℕ → Bool
 callAgrees stored input out =
     let call = callIn stored in
     cond (eqb call 0) (openAgrees stored input)
     (cond (eqb call 1) (sealAgrees stored input out)
     (cond (eqb call 2) (summaryAgrees stored input)
-    (cond (eqb call 3) (removeAgrees stored input out)
-    (cond (eqb call 4) (flip32Agrees stored input out) (cond (eqb call 5) (flip23Agrees stored input out) false)))))
+    (cond (eqb call 3) (removeAgrees stored input out) (cond (eqb call 4) (flipAgrees stored input out) false))))
 
 -- the call gives what is stored
 abbrev pub caseAgrees : List ℕ → Bool

@@ -3,7 +3,7 @@ ghost use Prim.Native.Nat.{_≤_};
 ghost use mathlib.Core.Path.{_≡_};
 ghost use lib.ListN.{length, replicate};
 ghost use Rattle.records.specs.Records.{recordBytes, partBytes};
-ghost use Rattle.agreement.specs.Agreement.{openAgrees, sealAgrees, summaryAgrees, removeAgrees, flip32Agrees, flip23Agrees};
+ghost use Rattle.agreement.specs.Agreement.{openAgrees, sealAgrees, summaryAgrees, removeAgrees, flipAgrees};
 ghost use Rattle.agreement.specs.Agreement.{callAgrees, caseAgrees};
 use expected::answer_is;
 use expected::fields_are;
@@ -17,8 +17,10 @@ use records::INPUT_AT;
 use records::INPUT_LENGTH_AT;
 use records::OUTPUT_LENGTH_AT;
 use records::PART_BYTES;
+use records::count;
 use records::length_at;
 use records::number;
+use records::numbers;
 
 fn open_agrees(stored: &[u8], input: &[u8]) -> bool
     requires { ⌜ length (now stored) ≡ recordBytes ⌝ }
@@ -67,28 +69,13 @@ fn remove_agrees(stored: &[u8], input: &[u8], out: &mut [u8]) -> bool
     output_is(out, stored)
 }
 
-fn flip_32_agrees(stored: &[u8], input: &[u8], out: &mut [u8]) -> bool
+fn flip_agrees(stored: &[u8], input: &[u8], out: &mut [u8]) -> bool
     requires { ⌜ (length (now stored) ≡ recordBytes) × (length (now out) ≤ partBytes) ⌝ }
-    ensures { λ r. ⌜ r ≡ flip32Agrees (now (stored .entry)) (now (input .entry)) (now (out .entry)) ⌝ }
+    ensures { λ r. ⌜ r ≡ flipAgrees (now (stored .entry)) (now (input .entry)) (now (out .entry)) ⌝ }
 {
-    let answer = patch::flip_32(input, number(stored, 0), number(stored, 1), out);
-    if !answer_is(answer, stored) {
-        return false;
-    }
-    output_is(out, stored)
-}
-
-fn flip_23_agrees(stored: &[u8], input: &[u8], out: &mut [u8]) -> bool
-    requires { ⌜ (length (now stored) ≡ recordBytes) × (length (now out) ≤ partBytes) ⌝ }
-    ensures { λ r. ⌜ r ≡ flip23Agrees (now (stored .entry)) (now (input .entry)) (now (out .entry)) ⌝ }
-{
-    let answer = patch::flip_23(
-        input,
-        number(stored, 0),
-        number(stored, 1),
-        number(stored, 2),
-        out,
-    );
+    let n = count(stored);
+    let given = numbers(stored);
+    let answer = patch::flip(input, &given[..n], out);
     if !answer_is(answer, stored) {
         return false;
     }
@@ -114,10 +101,7 @@ fn call_agrees(stored: &[u8], input: &[u8], out: &mut [u8]) -> bool
         return remove_agrees(stored, input, out);
     }
     if call == 4 {
-        return flip_32_agrees(stored, input, out);
-    }
-    if call == 5 {
-        return flip_23_agrees(stored, input, out);
+        return flip_agrees(stored, input, out);
     }
     false
 }

@@ -3,11 +3,11 @@ ghost use Prim.Native.Nat.{_*_, _<_};
 ghost use mathlib.Core.Path.{_≡_};
 ghost use Rattle.counts.specs.CaseCounts.{calls, answers, noCases, withOne, cellAt, totalOf, counted};
 
-// open, seal, summary, remove, flip_32, flip_23.
-const CALLS: usize = 6;
+// open, seal, summary, remove, flip.
+const CALLS: usize = 5;
 
-// 0 to 19.
-const ANSWERS: usize = 20;
+// 0 to 21.
+const ANSWERS: usize = 22;
 
 pub const CELLS: usize = CALLS * ANSWERS;
 

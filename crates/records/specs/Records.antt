@@ -1,6 +1,6 @@
 -- The parts of a record: its sizes, where each part starts, and its numbers, low byte first.
 use Prim.Native.Nat.{ℕ, _+_, _*_, min}
-use mathlib.Core.List.{List}
+use mathlib.Core.List.{List, [], _∷_}
 use lib.ListN.{getD, take, drop, replicate}
 
 -- the bytes of a record
@@ -11,7 +11,7 @@ recordBytes = 1152
 abbrev pub partBytes : ℕ
 partBytes = 520
 
--- the numbers of the edge or the face, the summary or the page row, the ring, the input, the output after the call
+-- the numbers of the edge or the flip, the summary or the page row, the ring, the input, the output after the call
 abbrev pub numbersAt : ℕ
 numbersAt = 8
 
@@ -55,9 +55,20 @@ fourAt stored at = twoAt stored at + 65536 * twoAt stored (at + 2)
 unfoldable pub numberAt : List ℕ → ℕ → ℕ
 numberAt stored at = fourAt stored at + 4294967296 * fourAt stored (at + 4)
 
--- the numbers of the edge or the face
+-- the numbers of the edge or the flip
 abbrev pub numberIn : List ℕ → ℕ → ℕ
 numberIn stored i = numberAt stored (numbersAt + 8 * i)
+
+-- how many numbers the flip is given; a record has four at most
+abbrev pub countIn : List ℕ → ℕ
+countIn stored = min (getD stored 98 0) 4
+
+abbrev pub fourNumbers : List ℕ → List ℕ
+fourNumbers stored = numberIn stored 0 ∷ numberIn stored 1 ∷ numberIn stored 2 ∷ numberIn stored 3 ∷ []
+
+-- the numbers of the flip
+abbrev pub numbersIn : List ℕ → List ℕ
+numbersIn stored = take (countIn stored) (fourNumbers stored)
 
 -- the numbers of the summary, or the bits of the page row
 abbrev pub figureIn : List ℕ → ℕ → ℕ

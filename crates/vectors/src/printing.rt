@@ -10,8 +10,7 @@ fn print_name(call: usize) {
         1 => io::write_all(STDOUT_FILENO, b"seal "),
         2 => io::write_all(STDOUT_FILENO, b"summary "),
         3 => io::write_all(STDOUT_FILENO, b"remove "),
-        4 => io::write_all(STDOUT_FILENO, b"flip_32 "),
-        _ => io::write_all(STDOUT_FILENO, b"flip_23 "),
+        _ => io::write_all(STDOUT_FILENO, b"flip "),
     }
     ;
 }

@@ -56,8 +56,8 @@ returns-4 c =
     ∙ skipped _ (ne-eqb _ _ (c .before .before .before .before .before .before .if2 .left))
     ∙ skipped _ (ne-eqb _ _ (c .before .before .before .before .before .before .before .if1 .left))
 
-flip-32-agrees-requires : tie.Need-flip-32-agrees-requires
-flip-32-agrees-requires c κs = search needs
+flip-agrees-requires : tie.Need-flip-agrees-requires
+flip-agrees-requires c κs = search needs
 
 same-length-3 : tie.Need-same-length-3
 same-length-3 c = search needs
@@ -65,39 +65,21 @@ same-length-3 c = search needs
 returns-5 : tie.Need-returns-5
 unfolding callAgrees
 returns-5 c =
-    c .before .before .flip-32-agrees .ensures
+    c .before .before .flip-agrees .ensures
     ∙ chosen _ (eq-eqb _ _ (c .before .before .before .before .if5 .taken))
     ∙ skipped _ (ne-eqb _ _ (c .before .before .before .before .before .if4 .left))
     ∙ skipped _ (ne-eqb _ _ (c .before .before .before .before .before .before .if3 .left))
     ∙ skipped _ (ne-eqb _ _ (c .before .before .before .before .before .before .before .if2 .left))
     ∙ skipped _ (ne-eqb _ _ (c .before .before .before .before .before .before .before .before .if1 .left))
 
-flip-23-agrees-requires : tie.Need-flip-23-agrees-requires
-flip-23-agrees-requires c κs = search needs
-
-same-length-4 : tie.Need-same-length-4
-same-length-4 c = search needs
-
 returns-6 : tie.Need-returns-6
 unfolding callAgrees
 returns-6 c =
-    c .before .before .flip-23-agrees .ensures
-    ∙ chosen _ (eq-eqb _ _ (c .before .before .before .before .if6 .taken))
-    ∙ skipped _ (ne-eqb _ _ (c .before .before .before .before .before .if5 .left))
-    ∙ skipped _ (ne-eqb _ _ (c .before .before .before .before .before .before .if4 .left))
-    ∙ skipped _ (ne-eqb _ _ (c .before .before .before .before .before .before .before .if3 .left))
-    ∙ skipped _ (ne-eqb _ _ (c .before .before .before .before .before .before .before .before .if2 .left))
-    ∙ skipped _ (ne-eqb _ _ (c .before .before .before .before .before .before .before .before .before .if1 .left))
-
-returns-7 : tie.Need-returns-7
-unfolding callAgrees
-returns-7 c =
-    skipped _ (ne-eqb _ _ (c .if6 .left))
-    ∙ skipped _ (ne-eqb _ _ (c .before .if5 .left))
-    ∙ skipped _ (ne-eqb _ _ (c .before .before .if4 .left))
-    ∙ skipped _ (ne-eqb _ _ (c .before .before .before .if3 .left))
-    ∙ skipped _ (ne-eqb _ _ (c .before .before .before .before .if2 .left))
-    ∙ skipped _ (ne-eqb _ _ (c .before .before .before .before .before .if1 .left))
+    skipped _ (ne-eqb _ _ (c .if5 .left))
+    ∙ skipped _ (ne-eqb _ _ (c .before .if4 .left))
+    ∙ skipped _ (ne-eqb _ _ (c .before .before .if3 .left))
+    ∙ skipped _ (ne-eqb _ _ (c .before .before .before .if2 .left))
+    ∙ skipped _ (ne-eqb _ _ (c .before .before .before .before .if1 .left))
 
 pub call-agrees-spec : {M : Type 1} → statement M
 call-agrees-spec =
@@ -114,10 +96,7 @@ call-agrees-spec =
     remove-agrees-requires
     same-length-2
     returns-4
-    flip-32-agrees-requires
+    flip-agrees-requires
     same-length-3
     returns-5
-    flip-23-agrees-requires
-    same-length-4
-    returns-6
-    returns-7)
+    returns-6)
