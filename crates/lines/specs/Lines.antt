@@ -53,6 +53,10 @@ summaryFields summary =
     decimal (summary .upright) ∷ decimal (summary .flat) ∷ decimal (summary .inverted)
     ∷ scoreField (summary .worst) ∷ octaveField (summary .octave) ∷ []
 
+-- `before` and `after` the summary of the block that was given, and of the block that was written
+abbrev pub summaryLines : Summary → Summary → List ℕ
+summaryLines before after = line "before" (summaryFields before) ++ line "after" (summaryFields after)
+
 -- the line of an answer
 abbrev pub answerLine : ℕ → List ℕ
 answerLine answer = line "answer" (decimal answer ∷ [])

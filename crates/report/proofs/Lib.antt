@@ -1,1 +1,2 @@
 pub mod OpenBlocksSummed
+pub mod ShortReports

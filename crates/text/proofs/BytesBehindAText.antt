@@ -9,7 +9,7 @@ use Rattle.layout.specs.Layout.{filled}
 use Rattle.layout.proofs.BlockParts.{filled-length}
 use Rattle.text.specs.declared.Text.{Text}
 use Rattle.text.specs.Texts.{textBytes, textOf}
-use Rattle.text.specs.Steps.{held, Behind}
+use Rattle.text.specs.Steps.{held, Behind, Whole}
 
 -- ---- what a text holds
 
@@ -18,9 +18,12 @@ unfolding held textOf
 held-size front = length-take textBytes front
 
 -- bytes that a text has room for are all held
-pub held-all : (front : List ℕ) → length front ≤ textBytes → held front ≡ textOf front
+held-all : (front : List ℕ) → length front ≤ textBytes → held front ≡ textOf front
 unfolding held
 held-all front h = ap textOf (take-all textBytes front h)
+
+pub whole : (bytes : List ℕ) {text : Text} → text ≡ held bytes → length bytes ≤ textBytes → Whole bytes text
+whole bytes e h = (e ∙ held-all bytes h, h)
 
 -- the bytes of a text that has room for them all may be lent
 pub text-lends : {text : Text} (bytes : List ℕ) → text ≡ textOf bytes → length bytes ≤ textBytes → text .n ≤ length (text .bytes)
