@@ -1,4 +1,3 @@
 pub mod PrintoutByAnswer
 pub mod ReadOffTheCalls
-pub mod PrintoutFits
 pub mod WaysOutOfPrint

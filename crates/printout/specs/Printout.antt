@@ -9,14 +9,13 @@ use Rattle.ring.specs.Ring.{Site, siteOf}
 use Rattle.triangulation.specs.Triangulation.{newRows}
 use Rattle.triangulation.specs.Best.{chosen}
 use Rattle.summary.specs.Summary.{summaryOf}
-use Rattle.lines.specs.Lines.{line, summaryFields, answerLine, ringLine, rowLine}
+use Rattle.lines.specs.Lines.{summaryLines, answerLine, ringLine, rowLine}
 use Rattle.calls.specs.Removing.{removeAnswer, removeBytes}
 
 -- `before` and `after`, `ring` the ring or the chain, and each `row` four numbers and the region of a new row, in written order
 unfoldable pub report : List ℕ → List ℕ → Site → List ℕ
 report block output site =
-    line "before" (summaryFields (summaryOf (fieldsOf block)))
-    ++ line "after" (summaryFields (summaryOf (fieldsOf output)))
+    summaryLines (summaryOf (fieldsOf block)) (summaryOf (fieldsOf output))
     ++ ringLine (site .ring)
     ++ flatMap rowLine (newRows site 1 (chosen site))
 

@@ -27,5 +27,5 @@ pub fn print(input: &[u8]) -> Text
     let Removal::Done(_) = removal else {
         return answered(removal.number());
     };
-    report::done(block, ring, &output)
+    report::removed(block, ring, &output)
 }

@@ -1,2 +1,3 @@
 pub mod OpenBlocksSummed
 pub mod ShortReports
+pub mod NewRows

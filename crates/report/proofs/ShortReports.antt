@@ -35,7 +35,7 @@ use Rattle.summary.specs.Summary.{summaryOf}
 use Rattle.ring.specs.declared.Ring.{Ring}
 use Rattle.text.specs.Texts.{textBytes}
 use Rattle.text.proofs.DecimalDigits.{three-digits, four-digits, small}
-use Rattle.lines.specs.Lines.{text, mark, scoreField, octaveField, summaryFields, line, answerLine, ringLine}
+use Rattle.lines.specs.Lines.{text, mark, scoreField, octaveField, ringLine}
 use Rattle.lines.proofs.LineLengths.{smallRow, SmallSummary, answer-size, ring-size, rows-size, summary-size}
 use Rattle.report.specs.Steps.{firstLines, lastLines, rowsOf, removalLines, flipLines, Written, Printable}
 

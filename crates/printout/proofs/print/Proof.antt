@@ -1,7 +1,6 @@
 -- `print` leaves on a wrong length and on a refusal; otherwise it reports.
 use mathlib.Core.Path.{refl}
 use native.Mathlib.Omega.{arith}
-use Rattle.printout.proofs.PrintoutFits.{all-bytes}
 use Rattle.printout.proofs.WaysOutOfPrint.{right-size, wrong-size, wrong-length, refusal, report-asks, reported}
 use borrow.Author.Needs.{needs}
 use Rattle.printout.proofs.print.Statement.{statement}
@@ -16,10 +15,8 @@ answered-requires c κs = tt
 returns : tie.Need-returns
 returns c =
     let tested = c .before .before in
-    let known = tested .before in
-    let input = known .before .args .input .now in
-    let bytes = all-bytes input (known .shared-slice-known .given) in
-    wrong-length input bytes (wrong-size input (tested .right-length .ensures) (c .before .if1 .taken)) (c .answered .ensures)
+    let input = tested .before .before .args .input .now in
+    wrong-length input (wrong-size input (tested .right-length .ensures) (c .before .if1 .taken)) (c .answered .ensures)
 
 shared-slice-read-e : tie.Need-shared-slice-read-e
 shared-slice-read-e c =
@@ -76,39 +73,33 @@ returns-2 : tie.Need-returns-2
 returns-2 c =
     let call = c .before .before .before .before .before .before in
     let left = call .before .before .before .before .before in
-    let known = left .before .before in
-    let input = known .before .args .input .now in
-    let bytes = all-bytes input (known .shared-slice-known .given) in
+    let input = left .before .before .before .args .input .now in
     let size = right-size input (left .before .right-length .ensures) (left .if1 .left) in
-    refusal input bytes size _ (call .remove .ensures .0) (c .before .before .enum-told2 .given .1)
+    refusal input size _ (call .remove .ensures .0) (c .before .before .enum-told2 .given .1)
     (c .before .number .ensures) (c .answered2 .ensures)
 
-slice-aggregate-done : tie.Need-slice-aggregate-done
-slice-aggregate-done c = search needs
+slice-aggregate-removed : tie.Need-slice-aggregate-removed
+slice-aggregate-removed c = search needs
 
-done-requires : tie.Need-done-requires
-done-requires c κs =
+removed-requires : tie.Need-removed-requires
+removed-requires c κs =
     let told = c .before in
     let call = told .before .before .before .before in
     let left = call .before .before .before .before .before in
-    let known = left .before .before in
-    let input = known .before .args .input .now in
-    let bytes = all-bytes input (known .shared-slice-known .given) in
+    let input = left .before .before .before .args .input .now in
     let size = right-size input (left .before .right-length .ensures) (left .if1 .left) in
     let done = told .enum-told .given .1 in
-    report-asks input bytes size _ (call .remove .ensures .0) _ done _ (call .remove .ensures .1)
+    report-asks input size _ (call .remove .ensures .0) _ done _ (call .remove .ensures .1)
 
 returns-3 : tie.Need-returns-3
 returns-3 c =
     let told = c .before .before in
     let call = told .before .before .before .before in
     let left = call .before .before .before .before .before in
-    let known = left .before .before in
-    let input = known .before .args .input .now in
-    let bytes = all-bytes input (known .shared-slice-known .given) in
+    let input = left .before .before .before .args .input .now in
     let size = right-size input (left .before .right-length .ensures) (left .if1 .left) in
     let done = told .enum-told .given .1 in
-    reported input bytes size _ (call .remove .ensures .0) _ done _ (call .remove .ensures .1) (c .done .ensures)
+    reported input size _ (call .remove .ensures .0) _ done _ (call .remove .ensures .1) (c .removed .ensures)
 
 pub print-spec : {M : Type 1} → statement M
 print-spec =
@@ -132,6 +123,6 @@ print-spec =
     number-requires
     answered-requires-2
     returns-2
-    slice-aggregate-done
-    done-requires
+    slice-aggregate-removed
+    removed-requires
     returns-3)
