@@ -25,6 +25,7 @@ pub fn right_length(input: &[u8]) -> bool
     input.len() == INPUT_BYTES
 }
 
+// The smaller of two numbers.
 fn smaller(x: usize, y: usize) -> usize
     ensures { λ r. ⌜ r ≡ min x y ⌝ }
 {
