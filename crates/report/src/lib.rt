@@ -1,6 +1,6 @@
 // The lines of an answer alone, and of a removal or a flip that is done; a text has room for all of them.
-ghost use mathlib.Core.Path.{_≡_};
 ghost use Prim.Native.Nat.{_≤_};
+ghost use mathlib.Core.Path.{_≡_};
 ghost use Rattle.layout.specs.Layout.{rowCount};
 ghost use Rattle.block.specs.Opening.{openAnswer};
 ghost use Rattle.lines.specs.Lines.{answerLine};
@@ -32,11 +32,11 @@ fn first_lines(block: &[u8], output: &[u8]) -> Text
 {
     let given = patch::summary(block);
     let Summarised::Summary(before) = given else {
-        return no_text();
+        return answered(given.number());
     };
     let written = patch::summary(output);
     let Summarised::Summary(after) = written else {
-        return no_text();
+        return answered(written.number());
     };
     let first = put_summary(put_word(put_answer(no_text(), 0), b"before"), before);
     put_summary(put_word(first, b"after"), after)

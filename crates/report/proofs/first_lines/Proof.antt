@@ -16,14 +16,17 @@ enum-known-given c = search needs
 enum-told : tie.Need-enum-told
 enum-told c = search needs
 
-no-text-requires : tie.Need-no-text-requires
-no-text-requires c κs = tt
+number-requires : tie.Need-number-requires
+number-requires c κs = tt
+
+answered-requires : tie.Need-answered-requires
+answered-requires c κs = tt
 
 returns : tie.Need-returns
 returns c =
-    let first = c .before .before .before in
+    let first = c .before .before .before .before in
     let start = first .before .before .before in
-    absurd (never-refused _ (start .pre .0) (first .summary .ensures) (c .before .enum-told .given .1))
+    absurd (never-refused _ (start .pre .0) (first .summary .ensures) (c .before .before .enum-told .given .1))
 
 summary-requires-2 : tie.Need-summary-requires-2
 summary-requires-2 c κs = tt
@@ -34,17 +37,20 @@ enum-known-written c = search needs
 enum-told-2 : tie.Need-enum-told-2
 enum-told-2 c = search needs
 
-no-text-requires-2 : tie.Need-no-text-requires-2
-no-text-requires-2 c κs = tt
+number-requires-2 : tie.Need-number-requires-2
+number-requires-2 c κs = tt
+
+answered-requires-2 : tie.Need-answered-requires-2
+answered-requires-2 c κs = tt
 
 returns-2 : tie.Need-returns-2
 returns-2 c =
-    let second = c .before .before .before in
+    let second = c .before .before .before .before in
     let start = second .before .before .before .before .before .before .before in
-    absurd (never-refused _ (start .pre .1) (second .summary2 .ensures) (c .before .enum-told2 .given .1))
+    absurd (never-refused _ (start .pre .1) (second .summary2 .ensures) (c .before .before .enum-told2 .given .1))
 
-no-text-requires-3 : tie.Need-no-text-requires-3
-no-text-requires-3 c κs = tt
+no-text-requires : tie.Need-no-text-requires
+no-text-requires c κs = tt
 
 put-answer-requires : tie.Need-put-answer-requires
 put-answer-requires c κs = tt
@@ -80,7 +86,7 @@ returns-3 c =
     let after-is = summary-is _ (start .pre .1) (second .summary2 .ensures) (told .before .written .given .1) in
     let one = then-put (before .before .put-word .ensures) (before .put-summary .ensures) in
     let two = then-put (c .before .put-word2 .ensures) (c .put-summary2 .ensures) in
-    rw (← before-is, ← after-is) (put-first (answer .before .no-text3 .ensures) (then-put (answer .put-answer .ensures) (then-put one two)))
+    rw (← before-is, ← after-is) (put-first (answer .before .no-text .ensures) (then-put (answer .put-answer .ensures) (then-put one two)))
 
 pub first-lines-spec : {M : Type 1} → statement M
 first-lines-spec =
@@ -89,14 +95,16 @@ first-lines-spec =
     summary-requires
     enum-known-given
     enum-told
-    no-text-requires
+    number-requires
+    answered-requires
     returns
     summary-requires-2
     enum-known-written
     enum-told-2
-    no-text-requires-2
+    number-requires-2
+    answered-requires-2
     returns-2
-    no-text-requires-3
+    no-text-requires
     put-answer-requires
     slice-aggregate-put-word
     put-word-requires
