@@ -1,3 +1,3 @@
 pub mod FirstFour
 pub mod ReadOffTheFlip
-pub mod WaysOutOfPrint
+pub mod WaysOutOfFlipPrint

@@ -1,5 +1,5 @@
 -- `print` hands on the block and the numbers, and leaves on a refusal; otherwise it reports.
-use Rattle.flip_printout.proofs.WaysOutOfPrint.{numbers-lend, count-is, handed-tell, refusal, asks, reported}
+use Rattle.flip_printout.proofs.WaysOutOfFlipPrint.{numbers-lend, count-is, handed-tell, refusal, asks, reported}
 use borrow.Author.Needs.{needs}
 use Rattle.flip_printout.proofs.print.Statement.{statement}
 use Rattle.flip_printout.proofs.print.Tie as tie
