@@ -48,7 +48,7 @@ mod held {
 
     #[test]
     fn on_generated_cases() {
-        Held::of(cases(1, CASES).map(|case| case.call)).expect(58_000);
+        Held::of(cases(1, CASES).map(|case| case.call)).expect(62_000);
     }
 
     #[test]
