@@ -82,7 +82,7 @@ fn drawn(mut number: usize) -> Family {
     unreachable!("the shares make a hundred")
 }
 
-/// The first `count` cases of a seed, each with one more that shows the rows of its block, and every second flip with one of
+/// The first `count` cases of a seed, each with one more that shows the rows of its block, and half of the flips with one of
 /// another count of numbers.
 pub fn cases(seed: u64, count: u64) -> impl Iterator<Item = Case> {
     (0..count).flat_map(move |index| {
