@@ -95,7 +95,7 @@ extern "C" {
 #define SUMPNEWT_STACK_SHOWN 1224
 #define SUMPNEWT_STACK_REMOVE 3480
 #define SUMPNEWT_STACK_PAGE 3784
-#define SUMPNEWT_STACK_FLIP 3176
+#define SUMPNEWT_STACK_FLIP 3464
 
 /* The answers, in the order in which they are tested. */
 enum {
