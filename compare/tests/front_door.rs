@@ -1,11 +1,12 @@
-//! What users touch: the samples, the script over the program, the header and the C example.
+//! What users touch: the samples, the script over the programs, the header and the C example.
 
 mod common;
 
 use common::commands::*;
 use common::*;
 use compare::gen::cases;
-use compare::model::limits::INPUT_BYTES;
+use compare::model::limits::{BLOCK_BYTES, INPUT_BYTES};
+use compare::model::printout::flip_printout;
 use compare::model::{answer, printout, remove, shown, Call, PageRow, Patch, Row, Summary};
 use std::ffi::OsStr;
 use std::fs;
@@ -133,11 +134,72 @@ fn the_script_prints_the_models_printout() {
     }
 }
 
+/// What the script prints of a flip.
+#[track_caller]
+fn flip_printed(file: &[u8], numbers: &[u8]) -> String {
+    let path = scratch("flip.patch");
+    fs::write(&path, file).expect("written");
+    let numbers: Vec<String> = numbers.iter().map(u8::to_string).collect();
+    let mut words = vec![OsStr::new("flip"), path.as_os_str()];
+    words.extend(numbers.iter().map(OsStr::new));
+    printed("./sumpnewt", &words)
+}
+
+/// The same, held to the model.
+#[track_caller]
+fn flip_held(block: &[u8], numbers: &[u8]) -> String {
+    let text = flip_printed(block, numbers);
+    let expected = flip_printout(&[block, numbers].concat());
+    assert_eq!(text, expected, "{numbers:?}");
+    text
+}
+
+#[test]
+fn the_script_prints_the_models_printout_of_a_flip() {
+    let sample = ["flip", "samples/block_a.patch", "0", "1"].map(OsStr::new);
+    assert!(run("./sumpnewt", &sample).status.success(), "it is built");
+    let [before, after] = [block_a(), block_a_after()].map(|patch| patch.to_bytes());
+    assert!(flip_held(&before, &[0, 1]).starts_with("answer 0\n"));
+    assert!(flip_held(&after, &[2, 3, 4]).starts_with("answer 0\n"));
+    flip_held(&before, &[0, 255]);
+    flip_held(&after, &[2, 3, 255]);
+    for input in SAMPLES.map(sample_input) {
+        let (block, ends) = input.split_at(BLOCK_BYTES);
+        flip_held(block, ends);
+    }
+    for (patch, [a, b]) in edges(5, 200).take(20) {
+        let block = patch.to_bytes();
+        flip_held(&block, &[a as u8, b as u8]);
+        for row in patch.rows.iter().take(2) {
+            flip_held(&block, &row.numbers[..3]);
+        }
+    }
+    let mut wrong_sum = before;
+    wrong_sum[BLOCK_BYTES - 1] ^= 1;
+    for count in [0, 1, 4, 5, 300] {
+        let numbers = vec![1; count];
+        assert_eq!(flip_held(&before, &numbers), "answer 21\n");
+        assert_eq!(flip_held(&wrong_sum, &numbers), "answer 2\n");
+    }
+    // Block A and its edge, with bytes of the file given as numbers, or numbers as bytes of the file.
+    let whole = [&before[..], &[0, 1]].concat();
+    for length in [0, 1, 510, 511, 513, 514] {
+        let (file, numbers) = whole.split_at(length);
+        assert_eq!(flip_printed(file, numbers), "answer 1\n", "{length} bytes");
+    }
+}
+
 #[test]
 fn the_script_tells_what_is_wrong_in_one_line() {
     let sample = "samples/block_a.patch";
-    let wrong: [&[&str]; 6] = [
+    let wrong: [&[&str]; 12] = [
         &[],
+        &["flip"],
+        &["flip", "samples/no_such.patch", "0", "1"],
+        &["flip", sample, "0", "256"],
+        &["flip", sample, "0", "1", "x"],
+        &["flip", sample, ""],
+        &[sample, "0", "1", "2"],
         &[sample, "0"],
         &["samples/no_such.patch", "0", "1"],
         &[sample, "0", "256"],

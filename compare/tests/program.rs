@@ -1,12 +1,12 @@
-//! The printout, byte for byte.
+//! The printouts, byte for byte.
 
 mod common;
 
 use common::*;
 use compare::gen::cases;
-use compare::model::limits::INPUT_BYTES;
-use compare::model::printout::summary_line;
-use compare::model::{printout, summary, Call, Patch, Summary};
+use compare::model::limits::{BLOCK_BYTES, INPUT_BYTES};
+use compare::model::printout::{flip_printout, summary_line};
+use compare::model::{answer, printout, summary, Call, Patch, Summary};
 
 const BLOCK_A: &str = "\
 answer 0
@@ -90,4 +90,87 @@ fn every_printout_has_its_form() {
             }
         }
     }
+}
+
+/// What a 3-2 flip of block A prints: a removal's lines without the ring.
+const BLOCK_A_FLIPPED: &str = "\
+answer 0
+before 3 0 0 584 1
+after 2 0 0 782 1
+row 0 2 3 4 7
+row 2 3 4 1 7
+";
+
+/// And a 2-3 flip back.
+const BLOCK_A_BACK: &str = "\
+answer 0
+before 2 0 0 782 1
+after 3 0 0 584 1
+row 0 1 2 3 7
+row 0 1 3 4 7
+row 0 1 4 2 7
+";
+
+/// What the flip's program prints of a patch and these numbers.
+fn flipped(patch: &Patch, numbers: &[u8]) -> String {
+    flip_printout(&[&patch.to_bytes()[..], numbers].concat())
+}
+
+#[test]
+fn both_flips_of_block_a_print_their_new_rows() {
+    assert_eq!(flipped(&block_a(), &[0, 1]), BLOCK_A_FLIPPED);
+    assert_eq!(flipped(&block_a(), &[1, 0]), BLOCK_A_FLIPPED);
+    for face in [[2, 3, 4], [4, 2, 3], [3, 2, 4]] {
+        assert_eq!(flipped(&block_a_after(), &face), BLOCK_A_BACK);
+    }
+}
+
+#[test]
+fn a_refused_flip_prints_one_line() {
+    assert_eq!(flipped(&block_a(), &[0, 255]), "answer 9\n");
+    assert_eq!(flipped(&block_a(), &[0, 1, 1]), "answer 9\n");
+    assert_eq!(flipped(&block_a(), &[0, 2, 3]), "answer 11\n");
+    assert_eq!(flipped(&block_a(), &[2, 3, 4]), "answer 10\n");
+}
+
+#[test]
+fn any_count_but_two_and_three_prints_answer_21() {
+    let mut wrong_sum = block_a().to_bytes();
+    wrong_sum[BLOCK_BYTES - 1] ^= 1;
+    for count in (0..9).chain([300]).filter(|count| ![2, 3].contains(count)) {
+        for number in [0, 255] {
+            let numbers = vec![number; count];
+            assert_eq!(flipped(&block_a(), &numbers), "answer 21\n", "{count}");
+            let wrong_block = [&wrong_sum[..], &numbers].concat();
+            assert_eq!(flip_printout(&wrong_block), "answer 2\n", "{count}");
+        }
+    }
+}
+
+#[test]
+fn a_flips_input_without_a_whole_block_prints_answer_1() {
+    let block = block_a().to_bytes();
+    for length in 0..BLOCK_BYTES {
+        assert_eq!(flip_printout(&block[..length]), "answer 1\n", "{length}");
+    }
+}
+
+#[test]
+fn a_flips_printout_is_a_removals_without_the_ring() {
+    let mut done = 0;
+    for (patch, [a, b]) in edges(7, 3_000) {
+        let [Ok(a), Ok(b)] = [u8::try_from(a), u8::try_from(b)] else {
+            continue;
+        };
+        let text = printout(&input(&patch, a, b));
+        let ring = text.lines().find(|line| line.starts_with("ring"));
+        let refused = flipped(&patch, &[a, b]) == format!("answer {}\n", answer::OPEN);
+        if ring.is_some_and(|ring| ring.split(' ').count() == 4) && !refused {
+            let kept = text.lines().filter(|line| !line.starts_with("ring"));
+            let rest: String = kept.map(|line| format!("{line}\n")).collect();
+            assert_eq!(flipped(&patch, &[a, b]), rest);
+            done += 1;
+        }
+    }
+    assert!(done > 10, "{done}");
 }

@@ -1,7 +1,10 @@
-//! "The program and its printout".
+//! "The programs and their printouts".
 
 use super::answer;
+use super::block::{open, Patch};
+use super::flips::{flip_23, flip_32};
 use super::limits::{BLOCK_BYTES, INPUT_BYTES};
+use super::mesh::Row;
 use super::removal::{remove, Removal};
 use super::summary::Summary;
 use std::fmt::Display;
@@ -27,15 +30,48 @@ pub fn printout(input: &[u8]) -> String {
 /// flat and inverted counts, worst score and octave (`-` for a mark), `ring` the ring, and each
 /// `row` four numbers and the region of a new row, in written order."
 fn accepted(removal: &Removal) -> String {
-    let mut text = String::from("answer 0\n");
-    text += &summary_line("before", Summary::of(&removal.before));
-    text += &summary_line("after", Summary::of(&removal.after));
-    text += &line("ring", &removal.ring);
-    for row in &removal.new_rows {
-        let [p, q, r, s] = row.numbers;
-        text += &line("row", &[p, q, r, s, row.region]);
+    let first = first_lines(&removal.before, &removal.after);
+    first + &line("ring", &removal.ring) + &row_lines(&removal.new_rows)
+}
+
+/// What the flip's program prints. It takes a block, then the numbers, one byte each, however many.
+pub fn flip_printout(input: &[u8]) -> String {
+    let (block, numbers) = input.split_at(input.len().min(BLOCK_BYTES));
+    let given: Vec<usize> = numbers.iter().copied().map(usize::from).collect();
+    let mut out = [0; BLOCK_BYTES];
+    match flip(block, &given, &mut out) {
+        answer::DONE => {
+            let [before, after] = [block, &out].map(|block| open(block).expect("it opens"));
+            let kept = before.rows.iter().filter(|row| !row.holds(numbers)).count();
+            first_lines(&before, &after) + &row_lines(&after.rows[kept..])
+        }
+        number => format!("answer {number}\n"),
     }
-    text
+}
+
+/// A flip with any count of numbers.
+fn flip(block: &[u8], numbers: &[usize], out: &mut [u8]) -> u32 {
+    match *numbers {
+        [a, b] => flip_32(block, a, b, out),
+        [u, v, w] => flip_23(block, [u, v, w], out),
+        _ => open(block).err().unwrap_or(21),
+    }
+}
+
+/// The lines `answer 0`, `before` and `after`.
+fn first_lines(before: &Patch, after: &Patch) -> String {
+    let summaries = [("before", before), ("after", after)];
+    let lines = summaries.map(|(word, patch)| summary_line(word, Summary::of(patch)));
+    String::from("answer 0\n") + &lines.concat()
+}
+
+/// A line for each row.
+fn row_lines(rows: &[Row]) -> String {
+    let line_of = |row: &Row| {
+        let [p, q, r, s] = row.numbers;
+        line("row", &[p, q, r, s, row.region])
+    };
+    rows.iter().map(line_of).collect()
 }
 
 /// One line of a summary, with `-` for a mark.
