@@ -2,7 +2,7 @@
 
 use super::answer;
 use super::block::{open, Patch};
-use super::flips::{flip_23, flip_32};
+use super::flips::flip;
 use super::limits::{BLOCK_BYTES, INPUT_BYTES};
 use super::mesh::Row;
 use super::removal::{remove, Removal};
@@ -46,15 +46,6 @@ pub fn flip_printout(input: &[u8]) -> String {
             first_lines(&before, &after) + &row_lines(&after.rows[kept..])
         }
         number => format!("answer {number}\n"),
-    }
-}
-
-/// A flip with any count of numbers.
-fn flip(block: &[u8], numbers: &[usize], out: &mut [u8]) -> u32 {
-    match *numbers {
-        [a, b] => flip_32(block, a, b, out),
-        [u, v, w] => flip_23(block, [u, v, w], out),
-        _ => open(block).err().unwrap_or(21),
     }
 }
 
