@@ -29,7 +29,8 @@ flips block out =
     (λ numbers. flipAnswer block out numbers ≡ 0 → Flips block numbers)
     (λ e f h.
     let r = flips-32 block out e f h in
-    record { opens = r .sound .opens; new = omega (arith, ring-rows block e f (r .sound) (omega (arith, r .three)) (r .way), r .three); few = omega arith })
+    let two = ring-rows block e f (r .sound) (omega (arith, r .three)) (r .way) in
+    record { opens = r .sound .opens; new = omega (arith, two, r .three); few = omega arith })
     (λ x y z h. record { opens = flips-23 block out x y z h .opens; new = refl; few = omega arith })
     (λ numbers two three h. absurd (never-done block out numbers two three h))
 

@@ -2,7 +2,7 @@
 -- and the first four numbers, or as much of both as there is.
 use Prim.Native.Nat.{ℕ, _-_, _≤_, min}
 use mathlib.Core.List.{List}
-use mathlib.Core.Path.{_≡_, sym, ap, ap₂, _∙_, subst}
+use mathlib.Core.Path.{_≡_, sym, ap, ap₂, _∙_}
 use native.Mathlib.Omega.{arith}
 use lib.ListN.{length, take, drop, replicate, length-append, length-take}
 use lib.Seq.{take-length, take-append-seam, take-take}
@@ -16,6 +16,7 @@ use Rattle.input.specs.declared.Numbers.{Numbers}
 use Rattle.input.specs.Steps.{mostNumbers, numbersOf}
 use Rattle.text.specs.declared.Text.{Text}
 use Rattle.text.specs.Steps.{Whole}
+use Rattle.text.proofs.BytesBehindAText.{whole-as}
 use Rattle.lines.specs.Lines.{answerLine}
 use Rattle.report.specs.Steps.{flipLines, Written}
 use Rattle.flip_printout.specs.FlipPrintout.{flipPrinted, flipPrintout}
@@ -54,16 +55,13 @@ module _ (input block numbers : List ℕ) (tell : flipPrinted block numbers ≡ 
   abbrev out : List ℕ
   out = replicate blockBytes 0
 
-  printed-as : {bytes : List ℕ} {text : Text} → flipPrinted block numbers ≡ bytes → Whole bytes text → Whole (flipPrintout input) text
-  printed-as {text = text} e = subst (λ (bytes : List ℕ). Whole bytes text) (sym e ∙ tell)
-
   -- a refusal
   pub refusal : {n k : ℕ} → answer ≡ Refused n → k ≡ numberOf answer → {text : Text} → Whole (answerLine k) text
       → Whole (flipPrintout input) text
   refusal {n} h k =
       let other = answer-refused (flipAnswer block out numbers) n (sym gives ∙ h) in
       let number = k ∙ (ap numberOf gives ∙ number-of (flipAnswer block out numbers)) in
-      printed-as (printed-refusal block numbers other ∙ ap answerLine (sym number))
+      whole-as (sym tell ∙ (printed-refusal block numbers other ∙ ap answerLine (sym number)))
 
   module _ (done : answer ≡ Done) (n : ℕ) (count : n ≡ length numbers) (output : List ℕ) (written : output ≡ flipBytes block out numbers) where
     zero : flipAnswer block out numbers ≡ 0
@@ -75,4 +73,4 @@ module _ (input block numbers : List ℕ) (tell : flipPrinted block numbers ≡ 
 
     -- a report
     pub reported : {text : Text} → Whole (flipLines block n output) text → Whole (flipPrintout input) text
-    reported = printed-as (printed-done block numbers zero ∙ ap₂ (flipLines block) (sym count) (sym written))
+    reported = whole-as (sym tell ∙ (printed-done block numbers zero ∙ ap₂ (flipLines block) (sym count) (sym written)))

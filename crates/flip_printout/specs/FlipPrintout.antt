@@ -1,4 +1,4 @@
--- Requirement §12: what the program prints of a flip; `lines/Lines` has its lines.
+-- Requirement §12.6: what the flip's program prints; `lines/Lines` has its lines.
 use Prim.Native.Nat.{ℕ}
 use mathlib.Core.Bool.{cond}
 use mathlib.Core.List.{List, [], _++_, flatMap}
@@ -9,7 +9,8 @@ use Rattle.summary.specs.Summary.{summaryOf}
 use Rattle.lines.specs.Lines.{summaryLines, answerLine, rowLine}
 use Rattle.calls.specs.Flipping.{rowsFlipped, flipAnswer, flipBytes}
 
--- `before` and `after`, and each `row` four numbers and the region of a new row, in written order; a refusal prints the line `answer N` alone
+-- of a block and numbers: `before` and `after`, and each `row` four numbers and the region of a new row, in written order; a refusal prints
+-- the line `answer N` alone
 unfoldable pub flipPrinted : List ℕ → List ℕ → List ℕ
 flipPrinted block numbers =
     let out : List ℕ = replicate blockBytes 0 in

@@ -2,7 +2,7 @@
 use Prim.Native.Nat.{ℕ, suc, _+_}
 use mathlib.Core.Bool.{Bool, true, false, not}
 use mathlib.Core.List.{List}
-use mathlib.Core.Path.{_≡_, sym, ap, _∙_, subst}
+use mathlib.Core.Path.{_≡_, sym, ap, _∙_}
 use borrow.Author.Tests.{eqb-true, eqb-false, not-true, not-false}
 use lib.Dec.{eqb}
 use lib.ListN.{length, take, replicate}
@@ -17,6 +17,7 @@ use Rattle.text.specs.declared.Text.{Text}
 use Rattle.lines.specs.Lines.{answerLine}
 use Rattle.printout.specs.Printout.{printout}
 use Rattle.text.specs.Steps.{Whole}
+use Rattle.text.proofs.BytesBehindAText.{whole-as}
 use Rattle.report.specs.Steps.{rowsOf, removalLines, Written, Printable}
 use Rattle.printout.proofs.ReadOffTheCalls.{number-is, done-answer, refused-answer, printable, both-written, done-lines}
 use Rattle.printout.proofs.PrintoutByAnswer.{printed-length, printed-refusal, printed-done}
@@ -31,12 +32,9 @@ pub wrong-size : (input : List ℕ) {right : Bool} → right ≡ eqb (length inp
 wrong-size input {right} e h = eqb-false (length input) (blockBytes + 2) (sym e ∙ not-true right h)
 
 module _ (input : List ℕ) where
-  printed-as : {bytes : List ℕ} {text : Text} → printout input ≡ bytes → Whole bytes text → Whole (printout input) text
-  printed-as {text = text} e = subst (λ (bytes : List ℕ). Whole bytes text) (sym e)
-
   -- a wrong length
   pub wrong-length : (length input ≡ blockBytes + 2 → ⊥) → {text : Text} → Whole (answerLine 1) text → Whole (printout input) text
-  wrong-length h = printed-as (printed-length input h)
+  wrong-length h = whole-as (printed-length input h)
 
   module _ (size : length input ≡ blockBytes + 2) where
     abbrev block : List ℕ
@@ -57,7 +55,7 @@ module _ (input : List ℕ) where
           → {text : Text} → Whole (answerLine k) text → Whole (printout input) text
       refusal {n} h k =
           let other = refused-answer block out e f removed gives n h in
-          printed-as (printed-refusal input size other ∙ ap answerLine (sym (k ∙ number-is block out e f removed gives)))
+          whole-as (printed-refusal input size other ∙ ap answerLine (sym (k ∙ number-is block out e f removed gives)))
 
       module _ (page : PageRow) (done : removed .removal ≡ Done page) where
         answer : removeAnswer block out e f ≡ 0
@@ -73,4 +71,4 @@ module _ (input : List ℕ) where
 
           -- a report
           pub reported : {text : Text} → Whole (removalLines block (removed .ring) output) text → Whole (printout input) text
-          reported = printed-as (printed-done input size answer ∙ rw (ring-is, written) (sym (done-lines block out e f answer)))
+          reported = whole-as (printed-done input size answer ∙ rw (ring-is, written) (sym (done-lines block out e f answer)))

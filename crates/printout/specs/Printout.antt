@@ -1,4 +1,4 @@
--- Requirement §12: what the program prints; `lines/Lines` has its lines.
+-- Requirement §12: what the program prints that removes an edge; `lines/Lines` has its lines.
 use Prim.Native.Nat.{ℕ, suc, _+_}
 use mathlib.Core.Bool.{cond}
 use mathlib.Core.List.{List, [], _++_, flatMap}

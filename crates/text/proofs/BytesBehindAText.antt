@@ -1,7 +1,7 @@
 -- Bytes put behind a text: one byte where there is room, none where there is not; bytes put after bytes are one piece.
 use Prim.Native.Nat.{ℕ, suc, _+_, _-_, _≤_, _<_, min}
 use mathlib.Core.List.{List, [], _∷_, _++_, append-assoc, append-nil}
-use mathlib.Core.Path.{_≡_, refl, sym, ap, ap₂, _∙_}
+use mathlib.Core.Path.{_≡_, refl, sym, ap, ap₂, _∙_, subst}
 use native.Mathlib.Omega.{arith}
 use lib.ListN.{length, set, replicate, length-take, length-append}
 use lib.Seq.{take-all, take-append-le}
@@ -24,6 +24,10 @@ held-all front h = ap textOf (take-all textBytes front h)
 
 pub whole : (bytes : List ℕ) {text : Text} → text ≡ held bytes → length bytes ≤ textBytes → Whole bytes text
 whole bytes e h = (e ∙ held-all bytes h, h)
+
+-- the same bytes, said in another way
+pub whole-as : {bytes others : List ℕ} {text : Text} → others ≡ bytes → Whole bytes text → Whole others text
+whole-as {text = text} e = subst (λ (xs : List ℕ). Whole xs text) (sym e)
 
 -- the bytes of a text that has room for them all may be lent
 pub text-lends : {text : Text} (bytes : List ℕ) → text ≡ textOf bytes → length bytes ≤ textBytes → text .n ≤ length (text .bytes)
