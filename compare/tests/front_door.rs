@@ -11,6 +11,7 @@ use compare::model::{answer, printout, remove, shown, Call, PageRow, Patch, Row,
 use std::ffi::OsStr;
 use std::fs;
 use std::path::PathBuf;
+use std::sync::Once;
 
 /// The patch of a readable text, by a second reading of it.
 fn patch_of(text: &str) -> Patch {
@@ -98,6 +99,18 @@ fn a_text_that_is_wrong_is_told_in_one_line() {
     }
 }
 
+/// Has the script build both programs, one after the other: two builds at once disturb each other.
+fn build_programs() {
+    static BUILT: Once = Once::new();
+    BUILT.call_once(|| {
+        let removal = ["samples/block_a.patch", "0", "1"].map(OsStr::new);
+        let flip = ["flip", "samples/block_a.patch", "0", "1"].map(OsStr::new);
+        for words in [&removal[..], &flip[..]] {
+            assert!(run("./sumpnewt", words).status.success(), "it is built");
+        }
+    });
+}
+
 /// What the script prints of an input whose last two bytes are the ends.
 #[track_caller]
 fn printed_of(input: &[u8]) -> String {
@@ -113,8 +126,7 @@ fn printed_of(input: &[u8]) -> String {
 
 #[test]
 fn the_script_prints_the_models_printout() {
-    let sample = ["samples/block_a.patch", "0", "1"].map(OsStr::new);
-    assert!(run("./sumpnewt", &sample).status.success(), "it is built");
+    build_programs();
     let generated = cases(5, 600).filter_map(|case| match case.call {
         Call::Printout { input } => Some(input),
         _ => None,
@@ -156,8 +168,7 @@ fn flip_held(block: &[u8], numbers: &[u8]) -> String {
 
 #[test]
 fn the_script_prints_the_models_printout_of_a_flip() {
-    let sample = ["flip", "samples/block_a.patch", "0", "1"].map(OsStr::new);
-    assert!(run("./sumpnewt", &sample).status.success(), "it is built");
+    build_programs();
     let [before, after] = [block_a(), block_a_after()].map(|patch| patch.to_bytes());
     assert!(flip_held(&before, &[0, 1]).starts_with("answer 0\n"));
     assert!(flip_held(&after, &[2, 3, 4]).starts_with("answer 0\n"));
