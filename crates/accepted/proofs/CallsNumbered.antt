@@ -86,7 +86,7 @@ unfolding any
 without-0 numbers n h other = rw (ne-eqb n 0 other) at h
 
 other-listed : (block out numbers : List ℕ) → (length numbers ≡ 2 → ⊥) → (length numbers ≡ 3 → ⊥)
-    → T (has (1 ∷ 2 ∷ 3 ∷ 4 ∷ 5 ∷ 6 ∷ 7 ∷ 8 ∷ 21 ∷ []) (flipAnswer block out numbers))
+    → T (has (flipNumbers []) (flipAnswer block out numbers))
 unfolding flipAnswer blockTests bodyTests
 other-listed block out numbers two three =
     without-0 _ _ (rw (miscounted (fieldsOf block) numbers two three) (on-list (blockTests block out ++ (21, true) ∷ [])))

@@ -105,7 +105,7 @@ rowsFlipped patch =
     (λ x y z. let face = x ∷ y ∷ z ∷ [] in threeRows (pairOf patch face) face)
     []
 
--- the patch afterwards; with any other count, which is refused, there is none
+-- the patch afterwards; with any other count, which is refused, it is as it was and is never written
 unfoldable pub patchFlipped : Patch → List ℕ → Patch
 patchFlipped patch =
     byCount

@@ -2,11 +2,11 @@
 use Prim.Native.Nat.{ℕ, min, max}
 use mathlib.Core.Bool.{true, _||_}
 use mathlib.Core.List.{List, [], _∷_}
-use mathlib.Core.Path.{_≡_, refl, sym, ap, _∙_, subst}
+use mathlib.Core.Path.{_≡_, sym, ap, _∙_, subst}
 use native.Mathlib.Omega.{arith}
 use borrow.Author.Tests.{eqb-true, eq-eqb, not-false}
 use lib.Ieee.{Float}
-use lib.ListN.{length}
+use lib.ListN.{length, getD}
 use Rattle.lists.specs.Lists.{every}
 use Rattle.lists.proofs.Tests.{neither-is}
 use Rattle.rows.specs.Rows.{holdsEdge, holdsFace}
@@ -32,6 +32,7 @@ use Rattle.triangulation.specs.Triangulation.{newRows}
 use Rattle.calls.specs.Removing.{removeAnswer, removeGives, removeBytes}
 use Rattle.calls.specs.Flipping.{pairOf, patchAfter23, flipAnswer, flipBytes}
 use Rattle.calls.proofs.CallTests.{each-count, never-done, flips-32, flips-23}
+use Rattle.calls.proofs.NumbersRead.{three-read}
 use Rattle.calls.proofs.SoundEdges.{sound-site}
 use Rattle.tables.specs.RoundAnEdge.{Round}
 use Rattle.tables.specs.FlipRows.{new23}
@@ -56,14 +57,6 @@ patch-read : (block : List ℕ) → RightBlock block → asPatch (openGives bloc
 unfolding fieldsOf
 patch-read block right = rw (open-fields block (opens block right))
 
--- three points by name
-three-named : (vs : List ℕ) → length vs ≡ 3 → (u v w : ℕ) × (vs ≡ u ∷ v ∷ w ∷ [])
-three-named [] e = absurd (omega arith)
-three-named (u ∷ []) e = absurd (omega arith)
-three-named (u ∷ v ∷ []) e = absurd (omega arith)
-three-named (u ∷ v ∷ w ∷ []) e = (u, v, w, refl)
-three-named (u ∷ v ∷ w ∷ x ∷ vs) e = absurd (omega arith)
-
 module _ (block out : List ℕ) (e f : ℕ) where
   abbrev its : Site
   its = siteOf (fieldsOf block) e f
@@ -84,7 +77,10 @@ module _ (block out : List ℕ) (e f : ℕ) where
   flip32-done h =
       let r = flips-32 block out e f h in
       let rows = fieldsOf block .rows in
-      let (u, v, w, ring) = three-named (its .ring) (r .three) in
+      let u = getD (its .ring) 0 0 in
+      let v = getD (its .ring) 1 0 in
+      let w = getD (its .ring) 2 0 in
+      let ring = three-read (its .ring) (r .three) in
       let (t, way) = way-found its (omega (arith, r .three)) (r .way) in
       let only = three-chosen its (sound-site block e f (r .sound)) (r .three) t way in
       record {

@@ -28,9 +28,9 @@ module _ (block out numbers : List ℕ) (size : length out ≡ blockBytes) where
       let opening = out-opened block out size in
       front-refuses _ (flipTests (fieldsOf block) numbers) (λ h. wrong (right-block block (sym opening ∙ h))) ∙ opening
 
-  -- a list without 21
-  abbrev Without21 : List ℕ → Type 0
-  Without21 ns = flipAnswer block out ns ≡ 21 → ⊥
+  -- 21 is not given with these
+  abbrev Never21 : List ℕ → Type 0
+  Never21 ns = flipAnswer block out ns ≡ 21 → ⊥
 
   tells-21 : RightBlock block → (flipAnswer block out numbers ≡ 21) ↔ ((length numbers ≡ 2 → ⊥) × (length numbers ≡ 3 → ⊥))
   unfolding firstRefusal any
@@ -41,10 +41,10 @@ module _ (block out numbers : List ℕ) (size : length out ≡ blockBytes) where
         flip-left block out numbers (opens block right) size ∙ ap firstRefusal (miscounted (fieldsOf block) numbers no-two no-three),
   )
     where
-      two : (e f : ℕ) → Without21 (e ∷ f ∷ [])
+      two : (e f : ℕ) → Never21 (e ∷ f ∷ [])
       two e f h = subst (λ n. T (has (flipNumbers (e ∷ f ∷ [])) n)) h (flip-listed block out (e ∷ f ∷ []))
 
-      three : (x y z : ℕ) → Without21 (x ∷ y ∷ z ∷ [])
+      three : (x y z : ℕ) → Never21 (x ∷ y ∷ z ∷ [])
       three x y z h = subst (λ n. T (has (flipNumbers (x ∷ y ∷ z ∷ [])) n)) h (flip-listed block out (x ∷ y ∷ z ∷ []))
 
 pub tells-count : Tells21 ours

@@ -9,7 +9,7 @@ use Rattle.layout.specs.Layout.{blockBytes}
 use Rattle.block.specs.Opening.{openAnswer}
 use Rattle.calls.proofs.CallTests.{opened}
 use Rattle.calls.proofs.FlipTold.{flip-blocked, flip-21}
-use Rattle.flip.proofs.NumbersRead.{two-told, three-told}
+use Rattle.calls.proofs.NumbersRead.{two-told, three-told}
 use Rattle.flip.proofs.flip.Statement.{statement}
 use Rattle.flip.proofs.flip.Tie as tie
 

@@ -5,15 +5,15 @@ use mathlib.Core.Path.{_≡_, refl, sym, subst}
 use native.Mathlib.Omega.{arith}
 use lib.ListN.{length, getD}
 use Rattle.answers.specs.declared.Answer.{Answer}
 use Rattle.calls.proofs.FlipTold.{Told}
 
-two-read : (numbers : List ℕ) → length numbers ≡ 2 → numbers ≡ getD numbers 0 0 ∷ getD numbers 1 0 ∷ []
+pub two-read : (numbers : List ℕ) → length numbers ≡ 2 → numbers ≡ getD numbers 0 0 ∷ getD numbers 1 0 ∷ []
 two-read [] e = absurd (omega arith)
 two-read (x ∷ []) e = absurd (omega arith)
 two-read (x ∷ y ∷ []) e = refl
 two-read (x ∷ y ∷ z ∷ more) e = absurd (omega arith)
 
-three-read : (numbers : List ℕ) → length numbers ≡ 3 → numbers ≡ getD numbers 0 0 ∷ getD numbers 1 0 ∷ getD numbers 2 0 ∷ []
+pub three-read : (numbers : List ℕ) → length numbers ≡ 3 → numbers ≡ getD numbers 0 0 ∷ getD numbers 1 0 ∷ getD numbers 2 0 ∷ []
 three-read [] e = absurd (omega arith)
 three-read (x ∷ []) e = absurd (omega arith)
 three-read (x ∷ y ∷ []) e = absurd (omega arith)
