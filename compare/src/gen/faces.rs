@@ -19,14 +19,12 @@ pub fn face(random: &mut Random) -> (Call, Option<u32>) {
     make(random)
 }
 
-/// Two rows on the face, in different regions or in one.
+/// Two rows on the face, both of one region.
 fn two_rows(random: &mut Random) -> Scene {
     let mut scene = Scene::new((0..8).map(|_| any_point(random)).collect());
     scene.push(random, [A, U, V, W]);
     scene.push(random, [B, U, W, V]);
-    if random.percent(50) {
-        scene.rows[1].region = scene.rows[0].region;
-    }
+    scene.rows[1].region = scene.rows[0].region;
     scene
 }
 

@@ -1,10 +1,11 @@
-//! Pieces of a mesh of cubes, six rows to a cube, with its points a little out of place.
+//! Pieces of a mesh of cubes, six rows to a cube, with its points a little out of place: of one material, or of two that meet
+//! in a plane.
 
 use super::random::Random;
 use super::rings::call_at;
 use super::scene::{any_out, Naming, Scene};
 use crate::model::mesh::{faces, Numbers};
-use crate::model::Call;
+use crate::model::{Call, Row};
 
 /// The six orders of the three axes, and whether each is even.
 pub const AXIS_ORDERS: [([usize; 3], bool); 6] = [
@@ -20,9 +21,20 @@ pub const AXIS_ORDERS: [([usize; 3], bool); 6] = [
 pub fn lattice(random: &mut Random) -> (Call, Option<u32>) {
     let size = random.pick(&[[2, 2, 2], [3, 2, 2], [3, 3, 2], [3, 3, 3]]);
     let mut scene = Scene::new(points(random, size));
-    for numbers in rows(size) {
+    let [one, other] = [0; 2].map(|_| random.byte());
+    let rows = rows(size);
+    let two_layers = size[0] == 3;
+    let joint = match two_layers && random.percent(50) {
+        true => rows.len() / 2,
+        false => rows.len(),
+    };
+    for (index, numbers) in rows.into_iter().enumerate() {
+        let region = match index < joint {
+            true => one,
+            false => other,
+        };
         if random.percent(97) {
-            scene.push(random, numbers);
+            scene.rows.push(Row { numbers, region });
         }
     }
     if scene.rows.is_empty() {
@@ -59,7 +71,7 @@ fn points(random: &mut Random, [x_count, y_count, z_count]: [usize; 3]) -> Vec<[
     points
 }
 
-/// Six rows to a cube: a corner, three steps to the opposite corner, in each order of the steps.
+/// Six rows to a cube, layer by layer along x: a corner, three steps to the opposite corner, in each order of the steps.
 fn rows(size: [usize; 3]) -> Vec<Numbers> {
     let number = |[x, y, z]: [usize; 3]| ((x * size[1] + y) * size[2] + z) as u8;
     let mut rows = vec![];

@@ -11,6 +11,7 @@ mod lattice;
 mod obstacles;
 mod plates;
 mod random;
+mod regions;
 mod rings;
 mod scene;
 mod shapes;
@@ -82,14 +83,16 @@ fn drawn(mut number: usize) -> Family {
     unreachable!("the shares make a hundred")
 }
 
-/// The first `count` cases of a seed, each with one more that shows the rows of its block, and half of the flips with one of
-/// another count of numbers.
+/// The first `count` cases of a seed, each with one more that shows the rows of its block, half of the flips with one of
+/// another count of numbers, and all flips and some removals with one where the rows that would go have several regions.
 pub fn cases(seed: u64, count: u64) -> impl Iterator<Item = Case> {
     (0..count).flat_map(move |index| {
         let case = case(seed, index);
         let random = &mut Random::of_case(!seed, index);
         let shown = shown::shown(random, &case);
         let other_count = counts::other_count(random, &case);
-        [Some(case), shown, other_count].into_iter().flatten()
+        let several = regions::several(random, &case);
+        let all = [Some(case), shown, other_count, several];
+        all.into_iter().flatten()
     })
 }

@@ -88,11 +88,6 @@ fn bare_ring(random: &mut Random, m: usize) -> Scene {
     scene.upright = random.percent(60);
     let around: Vec<u8> = (FIRST..FIRST + m as u8).collect();
     scene.link(random, &circle(&around));
-    if shape == Shape::Mirrored && random.percent(50) {
-        for row in &mut scene.rows {
-            row.region = 1;
-        }
-    }
     scene
 }
 

@@ -58,6 +58,7 @@ impl Scene {
         }
     }
 
+    /// Adds a row of any region.
     pub fn push(&mut self, random: &mut Random, numbers: Numbers) {
         let region = random.byte();
         self.rows.push(Row { numbers, region });
@@ -78,10 +79,12 @@ impl Scene {
         fits
     }
 
-    /// The links `from` to `to` round the edge, each as a row.
+    /// The links `from` to `to` round the edge, each as a row, all of one region.
     pub fn link(&mut self, random: &mut Random, links: &[(u8, u8)]) {
+        let region = random.byte();
         for (v, w) in links {
-            self.push(random, [A, B, *v, *w]);
+            let numbers = [A, B, *v, *w];
+            self.rows.push(Row { numbers, region });
         }
     }
 

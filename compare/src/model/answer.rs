@@ -38,5 +38,7 @@ pub const NONE_BETTER: u32 = 16;
 pub const ONE_APEX: u32 = 18;
 /// Removal only: the chain is not flat. Tested between 13 and 14.
 pub const NOT_FLAT: u32 = 19;
+/// The rows that would go have more than one region. Tested after 13, 18 and 19, before 14.
+pub const TWO_REGIONS: u32 = 20;
 /// Flip only: neither two numbers nor three. Tested between 8 and 9.
 pub const NOT_TWO_OR_THREE: u32 = 21;

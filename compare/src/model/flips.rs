@@ -3,7 +3,7 @@
 use super::answer;
 use super::block::{open, Patch};
 use super::limits::{BLOCK_BYTES, MAX_ROWS, SHORTEST_RING};
-use super::mesh::{even_arrangements, mesh_rule, Numbers, Row};
+use super::mesh::{even_arrangements, mesh_rule, region_of, Numbers, Row};
 use super::pieces::ring_admissible;
 use super::ring::site;
 use super::triangulations::{new_rows, ways};
@@ -31,8 +31,8 @@ fn flipped(patch: &Patch, numbers: &[usize]) -> Result<Patch, u32> {
     }
 }
 
-/// "3-2: removal of an edge with m = 3", of a ring alone: answers 9 to 13 and 15. The table gets one row shorter, so 14
-/// never comes.
+/// "3-2: removal of an edge with m = 3", of a ring alone: answers 9 to 13, 20 and 15. The table gets one row shorter, so
+/// 14 never comes.
 fn three_to_two(patch: &Patch, a: usize, b: usize) -> Result<Patch, u32> {
     let site = site(patch, a, b)?;
     if !site.closed {
@@ -40,6 +40,9 @@ fn three_to_two(patch: &Patch, a: usize, b: usize) -> Result<Patch, u32> {
     }
     if site.m() != SHORTEST_RING {
         return Err(answer::RING_LENGTH);
+    }
+    if site.region.is_none() {
+        return Err(answer::TWO_REGIONS);
     }
     let [only_way] = ways(1, SHORTEST_RING) else {
         unreachable!("three points have one triangle");
@@ -50,7 +53,7 @@ fn three_to_two(patch: &Patch, a: usize, b: usize) -> Result<Patch, u32> {
     Ok(site.patch_after(patch, &new_rows(&site, only_way)))
 }
 
-/// "2-3: a face u,v,w in two rows": answers 9, 10, 11, 18, 14 and 15.
+/// "2-3: a face u,v,w in two rows": answers 9, 10, 11, 18, 20, 14 and 15.
 fn two_to_three(patch: &Patch, face: [usize; 3]) -> Result<Patch, u32> {
     let count = patch.points.len();
     let [x, y, z] = face;
@@ -69,6 +72,9 @@ fn two_to_three(patch: &Patch, face: [usize; 3]) -> Result<Patch, u32> {
     if first_apex == second_apex {
         return Err(answer::ONE_APEX);
     }
+    let Some(region) = region_of(&going) else {
+        return Err(answer::TWO_REGIONS);
+    };
     if kept.len() + 3 > MAX_ROWS {
         return Err(answer::ROOM);
     }
@@ -78,10 +84,7 @@ fn two_to_three(patch: &Patch, face: [usize; 3]) -> Result<Patch, u32> {
     };
     let mut rows = kept;
     for numbers in three_rows(a, b, row_of_a.numbers, face) {
-        rows.push(Row {
-            numbers,
-            region: first.region,
-        });
+        rows.push(Row { numbers, region });
     }
     if !mesh_rule(&rows, count) {
         return Err(answer::NOT_ADMISSIBLE);

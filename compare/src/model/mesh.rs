@@ -21,6 +21,11 @@ impl Row {
     }
 }
 
+/// The region that all of these rows have; none where there is more than one.
+pub fn region_of(rows: &[Row]) -> Option<u8> {
+    (0..=u8::MAX).find(|region| rows.iter().all(|row| row.region == *region))
+}
+
 /// The twelve even rearrangements of four places.
 pub const EVEN: [[usize; 4]; 12] = [
     [0, 1, 2, 3],

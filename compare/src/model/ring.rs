@@ -2,7 +2,7 @@
 
 use super::answer;
 use super::block::Patch;
-use super::mesh::{even_arrangements, Numbers, Row};
+use super::mesh::{even_arrangements, region_of, Numbers, Row};
 
 /// "Each row holding both is rearranged evenly as (a,b,v,w) and gives a link v to w."
 #[derive(Clone, Copy, Debug, PartialEq, Eq)]
@@ -25,8 +25,8 @@ pub struct Site {
     pub removed: Vec<Row>,
     /// All other rows, in the table's order.
     pub kept: Vec<Row>,
-    /// "New rows take the region of the first removed row in the table."
-    pub region: u8,
+    /// "every new row has the region of all the old ones"; none where they have more than one.
+    pub region: Option<u8>,
 }
 
 impl Site {
@@ -40,11 +40,12 @@ impl Site {
         self.ring[i - 1]
     }
 
-    /// "The new block has the kept rows in order. Then come the new rows"; "points stay".
+    /// "The new block has the kept rows in order. Then come the new rows"; "points stay". The site has one region.
     pub fn patch_after(&self, patch: &Patch, new: &[Numbers]) -> Patch {
+        let region = self.region.expect("the removed rows have one region");
         let new = new.iter().map(|numbers| Row {
             numbers: *numbers,
-            region: self.region,
+            region,
         });
         Patch {
             points: patch.points.clone(),
@@ -71,15 +72,14 @@ pub fn site(patch: &Patch, end: usize, other_end: usize) -> Result<Site, u32> {
         true => ring_of(&links)?,
         false => chain_of(&links)?,
     };
-    let region = removed[0].region;
     Ok(Site {
         a,
         b,
         ring,
         closed,
+        region: region_of(&removed),
         removed,
         kept,
-        region,
     })
 }
 

@@ -1,4 +1,4 @@
-//! Removal of one edge: answers 1 to 16 and 19, the page row and the block afterwards.
+//! Removal of one edge: answers 1 to 16, 19 and 20, the page row and the block afterwards.
 
 use super::block::{numbers, opened, seal, Fields, RowBytes};
 use super::measure::{volume, Quality};
@@ -94,6 +94,9 @@ pub fn remove(block: &[u8], end: usize, other_end: usize, out: &mut [u8]) -> Res
     };
     let site = Site::of(block, end, other_end)?;
     let Site { fields, a, b, .. } = site;
+    let Some(region) = site.ring.region else {
+        return Err(answer::TWO_REGIONS);
+    };
     let m = site.ring.points().len();
     let going = match site.ring.closed {
         true => m,
@@ -119,7 +122,6 @@ pub fn remove(block: &[u8], end: usize, other_end: usize, out: &mut [u8]) -> Res
     if !worst_removed.worse(best.worst) {
         return Err(answer::NONE_BETTER);
     }
-    let region = removed.rows[0][ROW_BYTES - 1];
     let mut new = Rows::<MOST_NEW_ROWS>::NONE;
     new.push_piece(&site, region, &pieces, 0, m - 1);
     write(block, kept.all(), new.all(), out);

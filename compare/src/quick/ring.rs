@@ -2,7 +2,7 @@
 
 use super::block::RowBytes;
 use crate::model::answer;
-use crate::model::limits::{LONGEST_RING, MAX_POINTS, SHORTEST_RING};
+use crate::model::limits::{LONGEST_RING, MAX_POINTS, ROW_BYTES, SHORTEST_RING};
 
 /// The places behind those of a and b in a row, so that all four make an even arrangement.
 const BEHIND: [[[usize; 2]; 4]; 4] = [
@@ -12,10 +12,14 @@ const BEHIND: [[[usize; 2]; 4]; 4] = [
     [[2, 1], [0, 2], [1, 0], [0, 0]],
 ];
 
-/// v1 to vm, and whether a link leads back from vm to v1.
+/// The place of the region in a row.
+const REGION_AT: usize = ROW_BYTES - 1;
+
+/// v1 to vm, whether a link leads back from vm to v1, and the region of the rows if they have one.
 pub struct Ring {
     m: usize,
     pub closed: bool,
+    pub region: Option<u8>,
     points: [u8; LONGEST_RING],
 }
 
@@ -30,10 +34,17 @@ impl Ring {
     pub fn find(rows: &[RowBytes], a: u8, b: u8) -> Result<Ring, u32> {
         let mut next = [0; MAX_POINTS];
         let (mut starts, mut ends) = (0u64, 0u64);
-        for [v, w] in rows.iter().filter_map(|row| link(row, a, b)) {
+        // The bits that all regions have, and those that any has: the same if there is one region.
+        let (mut in_all, mut in_any) = (u8::MAX, 0);
+        for row in rows {
+            let Some([v, w]) = link(row, a, b) else {
+                continue;
+            };
             next[usize::from(v)] = w;
             starts |= 1 << v;
             ends |= 1 << w;
+            in_all &= row[REGION_AT];
+            in_any |= row[REGION_AT];
         }
         if starts == 0 {
             return Err(answer::NOT_HELD);
@@ -46,6 +57,7 @@ impl Ring {
         let mut ring = Ring {
             m: 0,
             closed,
+            region: (in_all == in_any).then_some(in_all),
             points: [0; LONGEST_RING],
         };
         let mut here = first;

@@ -6,10 +6,12 @@
 
 mod flips;
 mod order;
+mod regions;
 mod table;
 
 use crate::model::limits::{LONGEST_RING, MAX_ROWS, SHORTEST_RING};
 use crate::model::{answer, Patch, Quality, Row};
+use regions::{sees_several, Compared};
 use table::Table;
 
 pub use flips::{faulty_flip, FlipFault, FLIP_FAULTS};
@@ -31,7 +33,17 @@ pub enum Fault {
     TakesEqualForBetter,
     ComparesWithPatchWorst,
     StartsAtFirstRow,
-    TakesRegionOfV1,
+    /// And gives the new rows that of the first one.
+    TakesSeveralRegions,
+    LooksAtTwoRegions,
+    ComparesOuterRegions,
+    ComparesRegionsTwoByTwo,
+    ComparesLowBitsOfRegions,
+    ComparesRegionsOfTable,
+    TestsRegionsBeforeLength,
+    TestsRegionsBeforeFlat,
+    TestsRegionsAfterRoom,
+    TestsRegionsLast,
     TestsRoomLast,
     CirclesBeforeChains,
     CutsEndsToBytes,
@@ -50,7 +62,7 @@ pub enum Fault {
 }
 
 /// Every wrong kernel.
-pub const FAULTS: [Fault; 28] = [
+pub const FAULTS: [Fault; 37] = [
     Fault::ComparesRounded,
     Fault::IgnoresTheSign,
     Fault::ForgetsDiagonals,
@@ -63,7 +75,16 @@ pub const FAULTS: [Fault; 28] = [
     Fault::TakesEqualForBetter,
     Fault::ComparesWithPatchWorst,
     Fault::StartsAtFirstRow,
-    Fault::TakesRegionOfV1,
+    Fault::TakesSeveralRegions,
+    Fault::LooksAtTwoRegions,
+    Fault::ComparesOuterRegions,
+    Fault::ComparesRegionsTwoByTwo,
+    Fault::ComparesLowBitsOfRegions,
+    Fault::ComparesRegionsOfTable,
+    Fault::TestsRegionsBeforeLength,
+    Fault::TestsRegionsBeforeFlat,
+    Fault::TestsRegionsAfterRoom,
+    Fault::TestsRegionsLast,
     Fault::TestsRoomLast,
     Fault::CirclesBeforeChains,
     Fault::CutsEndsToBytes,
@@ -81,7 +102,7 @@ pub const FAULTS: [Fault; 28] = [
     Fault::ClosingFacesEitherWay,
 ];
 
-/// The patch after the removal, or the answer: 9 to 16 and 19.
+/// The patch after the removal, or the answer: 9 to 16, 19 and 20.
 pub fn removal(patch: &Patch, ends: [usize; 2], fault: Fault) -> Result<Patch, u32> {
     let [a, b] = ordered_ends(patch, ends, fault)?;
     let hit: Vec<bool> = patch
@@ -95,9 +116,15 @@ pub fn removal(patch: &Patch, ends: [usize; 2], fault: Fault) -> Result<Patch, u
         .collect();
     let (ring, closed) = circle_or_chain(&links, fault)?;
     let m = ring.len();
+    let kept: Vec<Row> = pick(patch, &hit, false);
+    let removed: Vec<Row> = pick(patch, &hit, true);
+    let several = sees_several(&patch.rows, &removed, compared(fault));
     let bent = !closed && is_bent(patch, [a, b, ring[0], ring[m - 1]], fault);
     if bent && fault == Fault::TestsFlatBeforeLength {
         return Err(answer::NOT_FLAT);
+    }
+    if several && fault == Fault::TestsRegionsBeforeLength {
+        return Err(answer::TWO_REGIONS);
     }
     let counted = match fault {
         Fault::CountsChainsInRows => links.len(),
@@ -106,8 +133,15 @@ pub fn removal(patch: &Patch, ends: [usize; 2], fault: Fault) -> Result<Patch, u
     if !(SHORTEST_RING..=LONGEST_RING).contains(&counted) {
         return Err(answer::RING_LENGTH);
     }
+    if several && fault == Fault::TestsRegionsBeforeFlat {
+        return Err(answer::TWO_REGIONS);
+    }
     if bent && fault != Fault::TestsFlatAfterRoom {
         return Err(answer::NOT_FLAT);
+    }
+    let late = [Fault::TestsRegionsAfterRoom, Fault::TestsRegionsLast].contains(&fault);
+    if several && !late {
+        return Err(answer::TWO_REGIONS);
     }
     let no_room = patch.rows.len() + m > room(closed, fault);
     if no_room && fault != Fault::TestsRoomLast {
@@ -116,8 +150,9 @@ pub fn removal(patch: &Patch, ends: [usize; 2], fault: Fault) -> Result<Patch, u
     if bent {
         return Err(answer::NOT_FLAT);
     }
-    let kept: Vec<Row> = pick(patch, &hit, false);
-    let removed: Vec<Row> = pick(patch, &hit, true);
+    if several && fault == Fault::TestsRegionsAfterRoom {
+        return Err(answer::TWO_REGIONS);
+    }
     let table = Table::fill(patch, &kept, [a, b], (&ring, closed), fault);
     let new = table.expanded().ok_or(answer::NOT_ADMISSIBLE)?;
     let judged = match fault {
@@ -131,7 +166,10 @@ pub fn removal(patch: &Patch, ends: [usize; 2], fault: Fault) -> Result<Patch, u
     if no_room {
         return Err(answer::ROOM);
     }
-    let region = region_of(&removed, &links, ring[0], fault);
+    if several {
+        return Err(answer::TWO_REGIONS);
+    }
+    let region = removed[0].region;
     let new = new.into_iter().map(|numbers| Row { numbers, region });
     Ok(Patch {
         points: patch.points.clone(),
@@ -238,11 +276,15 @@ fn chain_seen(mut chain: Vec<u8>, fault: Fault) -> Result<Vec<u8>, u32> {
     Ok(chain)
 }
 
-fn region_of(removed: &[Row], links: &[(u8, u8)], v1: u8, fault: Fault) -> u8 {
-    let of_v1 = || links.iter().position(|(v, _)| *v == v1);
+fn compared(fault: Fault) -> Compared {
     match fault {
-        Fault::TakesRegionOfV1 => removed[of_v1().expect("v1 starts a link")].region,
-        _ => removed[0].region,
+        Fault::TakesSeveralRegions => Compared::Nothing,
+        Fault::LooksAtTwoRegions => Compared::TheFirstTwo,
+        Fault::ComparesOuterRegions => Compared::TheOuterTwo,
+        Fault::ComparesRegionsTwoByTwo => Compared::TwoByTwo,
+        Fault::ComparesLowBitsOfRegions => Compared::LowBits,
+        Fault::ComparesRegionsOfTable => Compared::WholeTable,
+        _ => Compared::EachWithTheNext,
     }
 }
 

@@ -11,6 +11,9 @@ use std::collections::BTreeMap;
 
 mod chains;
 mod print;
+mod regions;
+
+pub use regions::{SHARED_IN_TABLE, SHARED_ROUND_EDGE};
 
 /// Answers are 0 to 21.
 pub const ANSWERS: usize = 22;
@@ -33,7 +36,7 @@ pub struct Tally {
     /// Removals and flips that tell a wrong kernel from the model, by what it gets wrong.
     pub told: BTreeMap<String, u64>,
     /// Fine points that removals went through.
-    pub points: BTreeMap<&'static str, u64>,
+    pub points: BTreeMap<String, u64>,
     /// Cases where the model disagreed with the case's builder or with the second removal.
     pub disagreements: Vec<String>,
 }
@@ -60,6 +63,9 @@ impl Tally {
         self.add_page(&outcome);
         self.add_shown(&case.call, &outcome);
         self.add_flip_rivals(&case.call, &outcome);
+        for name in regions::region_points(&case.call, number) {
+            self.point(&name, true);
+        }
         let Some((block, ends)) = edge_of(&case.call) else {
             return;
         };
@@ -155,8 +161,6 @@ impl Tally {
     }
 
     fn add_points(&mut self, patch: &Patch, site: &Site, number: u32, after: Option<Patch>) {
-        let regions = site.removed.iter().any(|row| row.region != site.region);
-        self.point("ring or chain of several regions", regions);
         self.point(
             "60 rows before, answer 0",
             number == 0 && patch.rows.len() == MAX_ROWS,
@@ -249,8 +253,8 @@ impl Tally {
         }
     }
 
-    fn point(&mut self, name: &'static str, seen: bool) {
-        *self.points.entry(name).or_default() += u64::from(seen);
+    fn point(&mut self, name: &str, seen: bool) {
+        *self.points.entry(name.to_string()).or_default() += u64::from(seen);
     }
 }
 

@@ -72,7 +72,7 @@ pub fn reasons(case: &Case) -> Vec<String> {
     let told = tally.told.into_iter().filter(|(_, told)| *told > 0);
     reasons.extend(told.map(|(fault, _)| format!("not {fault}")));
     let points = tally.points.into_iter().filter(|(_, seen)| *seen > 0);
-    reasons.extend(points.map(|(point, _)| String::from(point)));
+    reasons.extend(points.map(|(point, _)| point));
     if number == answer::NOT_TWO_OR_THREE {
         reasons.push(in_count(&case.call));
     }
