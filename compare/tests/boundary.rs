@@ -10,7 +10,7 @@ use std::fs;
 
 /// Every name of the header but the bytes of stack, with the model's number, in the header's order: for the answers that in
 /// which they are tested.
-const NAMES: [(&str, usize); 45] = [
+const NAMES: [(&str, usize); 46] = [
     ("BLOCK_BYTES", limits::BLOCK_BYTES),
     ("FIELDS_BYTES", limits::FIELD_BYTES),
     ("SUMMARY_ELEMENTS", SUMMARY_NUMBERS),
@@ -44,6 +44,7 @@ const NAMES: [(&str, usize); 45] = [
     ("RING_LENGTH", answer::RING_LENGTH as usize),
     ("NOT_FLAT", answer::NOT_FLAT as usize),
     ("ONE_APEX", answer::ONE_APEX as usize),
+    ("TWO_REGIONS", answer::TWO_REGIONS as usize),
     ("NO_ROOM", answer::ROOM as usize),
     ("BLOCKED", answer::NOT_ADMISSIBLE as usize),
     ("NONE_BETTER", answer::NONE_BETTER as usize),

@@ -186,7 +186,8 @@ fn flat_is_d_of_the_outer_four_and_nothing_more() {
 fn closed_by_a_flat_row(patch: &Patch, site: &Site) -> Patch {
     let mut closed = patch.clone();
     let numbers = [site.a, site.b, site.v(site.m()), site.v(1)];
-    closed.rows.push(Row { numbers, region: 0 });
+    let region = site.region.expect("one region");
+    closed.rows.push(Row { numbers, region });
     closed
 }
 

@@ -1,5 +1,8 @@
 //! The cases cover what they are for: good numbers in each line of their table.
 
+mod common;
+
+use common::region_points;
 use compare::gen::cases;
 use compare::tally::{Counts, Tally};
 use std::sync::LazyLock;
@@ -17,16 +20,18 @@ const POSSIBLE: [(&str, &[usize]); 10] = [
     ("printout", &REMOVAL),
     (
         "flip 3-2",
-        &[0, 1, 2, 3, 4, 5, 6, 7, 8, 9, 10, 11, 12, 13, 15],
+        &[0, 1, 2, 3, 4, 5, 6, 7, 8, 9, 10, 11, 12, 13, 15, 20],
     ),
     (
         "flip 2-3",
-        &[0, 1, 2, 3, 4, 5, 6, 7, 8, 9, 10, 11, 14, 15, 18],
+        &[0, 1, 2, 3, 4, 5, 6, 7, 8, 9, 10, 11, 14, 15, 18, 20],
     ),
     ("flip, other count", &[1, 2, 3, 4, 5, 6, 7, 8, 21]),
 ];
 
-const REMOVAL: [usize; 18] = [0, 1, 2, 3, 4, 5, 6, 7, 8, 9, 10, 11, 12, 13, 14, 15, 16, 19];
+const REMOVAL: [usize; 19] = [
+    0, 1, 2, 3, 4, 5, 6, 7, 8, 9, 10, 11, 12, 13, 14, 15, 16, 19, 20,
+];
 
 fn holds(name: &str, counts: &Counts, possible: &[usize], least: u64) {
     for (number, count) in counts.iter().enumerate() {
@@ -50,8 +55,8 @@ fn rings_of_every_length_get_every_outcome() {
     for (m, counts) in &TALLY.rings {
         let name = format!("m = {m}");
         match m {
-            3 | 4 => holds(&name, counts, &[0, 15, 16], 100),
-            5..=10 => holds(&name, counts, &[0, 14, 15, 16], 80),
+            3 | 4 => holds(&name, counts, &[0, 15, 16, 20], 100),
+            5..=10 => holds(&name, counts, &[0, 14, 15, 16, 20], 80),
             _ => holds(&name, counts, &[13], 100),
         }
     }
@@ -64,8 +69,8 @@ fn chains_of_every_length_get_every_outcome() {
     for (m, counts) in &TALLY.chains {
         let name = format!("chain, m = {m}");
         match m {
-            3 => holds(&name, counts, &[0, 15, 16, 19], 50),
-            4..=10 => holds(&name, counts, &[0, 14, 15, 16, 19], 30),
+            3 => holds(&name, counts, &[0, 15, 16, 19, 20], 50),
+            4..=10 => holds(&name, counts, &[0, 14, 15, 16, 19, 20], 30),
             _ => holds(&name, counts, &[13], 80),
         }
     }
@@ -96,6 +101,14 @@ fn every_wrong_kernel_is_told_apart() {
 fn every_fine_point_is_seen() {
     for (point, seen) in &TALLY.points {
         assert!(*seen >= 20, "{point}: {seen}");
+    }
+}
+
+#[test]
+fn regions_are_shared_in_every_way_and_tested_in_their_place() {
+    for name in region_points() {
+        let seen = TALLY.points.get(&name).copied().unwrap_or(0);
+        assert!(seen >= 20, "{name}: {seen}");
     }
 }
 

@@ -90,7 +90,7 @@ fn expected(file: &[u8], disagreeing: &BTreeSet<usize>) -> String {
 }
 
 /// A call, an answer, and which byte of a record of theirs is changed: the two numbers of a 13 become three.
-const DAMAGES: [(&str, u8, usize); 11] = [
+const DAMAGES: [(&str, u8, usize); 13] = [
     ("open", 0, OUTPUT_AT + POINT_COUNT_AT),
     ("seal", 0, OUTPUT_AT + BLOCK_BYTES - 1),
     ("seal", 8, ANSWER_AT),
@@ -98,9 +98,11 @@ const DAMAGES: [(&str, u8, usize); 11] = [
     ("remove", 0, FIGURES_AT),
     ("remove", 0, RING_AT),
     ("remove", 19, ANSWER_AT),
+    ("remove", 20, OUTPUT_AT),
     ("flip", 0, OUTPUT_AT),
     ("flip", 13, COUNT_AT),
     ("flip", 18, OUTPUT_AT),
+    ("flip", 20, ANSWER_AT),
     ("flip", 21, OUTPUT_AT),
 ];
 

@@ -5,6 +5,7 @@ mod common;
 use common::*;
 use compare::gen::cases;
 use compare::model::{answer, flip, open, Call, Patch, Row};
+use std::collections::BTreeSet;
 
 /// The blocks and faces of generated 2-3 flips.
 fn faces(seed: u64, count: u64) -> impl Iterator<Item = (Vec<u8>, [usize; 3])> {
@@ -62,11 +63,10 @@ fn a_3_2_flip_undoes_a_2_3_flip() {
             continue;
         }
         let before = open(&block).unwrap();
-        let (rows, [a, b]) = pair(&before, face);
+        let (_, [a, b]) = pair(&before, face);
         let both = [a as u8, b as u8];
-        let one_region = rows[0].region == rows[1].region;
         let apart = !before.rows.iter().any(|row| row.holds(&both));
-        if one_region && apart {
+        if apart {
             let (number, back) = flipped(&out, &[a, b]);
             assert_eq!(number, 0);
             assert_eq!(tetrahedra(&open(&back).unwrap()), tetrahedra(&before));
@@ -91,6 +91,7 @@ fn a_2_3_flip_appends_three_rows_round_the_apexes() {
         assert_eq!((old, new.len()), (&kept[..], 3));
         assert_eq!(after.points, before.points);
         assert_eq!(total_d(&after), total_d(&before));
+        assert_eq!(d_by_region(&after), d_by_region(&before));
         let u = face.into_iter().min().unwrap() as u8;
         let [v, w] = [new[1].numbers[2], new[1].numbers[3]];
         let (a, b) = (a as u8, b as u8);
@@ -99,7 +100,8 @@ fn a_2_3_flip_appends_three_rows_round_the_apexes() {
             new.iter().map(|row| row.numbers).collect::<Vec<_>>(),
             expected
         );
-        assert!(new.iter().all(|row| row.region == gone[0].region));
+        let regions: BTreeSet<u8> = gone.iter().chain(new).map(|row| row.region).collect();
+        assert_eq!(regions.len(), 1);
         let row_of_a = gone.iter().find(|row| row.numbers.contains(&a)).unwrap();
         let even = |row: &Row| tetrahedra(&patch(&[], &[row.numbers], 0));
         let arranged = Row {
@@ -111,16 +113,28 @@ fn a_2_3_flip_appends_three_rows_round_the_apexes() {
 }
 
 #[test]
-fn answer_18_stands_before_14_and_14_before_15() {
+fn answer_18_stands_before_20_then_14_and_15() {
     let points = vec![[0; 3]; 64];
     let two = [[0, 2, 3, 4], [0, 2, 4, 3]];
     let one_apex = filled(patch(&points, &two, 0), 60, 7);
     let three = [[0, 2, 3, 4], [1, 2, 4, 3], [0, 1, 3, 6]];
     let mut used = filled(patch(&points, &three, 0), 60, 7);
-    assert_eq!(flipped(&one_apex.to_bytes(), &[2, 3, 4]).0, 18);
-    assert_eq!(flipped(&used.to_bytes(), &[2, 3, 4]).0, 14);
+    let in_regions = |patch: &Patch, number: u32| {
+        for joint in in_two_regions(patch, &[2, 3, 4]) {
+            assert_eq!(flip_answer(&joint, &[2, 3, 4]), number);
+        }
+    };
+    assert_eq!(flip_answer(&one_apex, &[2, 3, 4]), 18);
+    in_regions(&one_apex, 18);
+    assert_eq!(flip_answer(&used, &[2, 3, 4]), 14);
+    in_regions(&used, 20);
     used.rows.pop();
-    assert_eq!(flipped(&used.to_bytes(), &[2, 3, 4]).0, 15);
+    assert_eq!(flip_answer(&used, &[2, 3, 4]), 15);
+    in_regions(&used, 20);
+    in_regions(&block_a_after(), 20);
+    for face in [[2, 3, 3], [2, 3, 64]] {
+        assert_eq!(flip_answer(&in_two_regions(&used, &[2, 3, 4])[0], &face), 9);
+    }
 }
 
 /// The numbers of a flip that is done, cut or lengthened to any other count, and numbers of no point.

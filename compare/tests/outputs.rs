@@ -2,7 +2,7 @@
 
 mod common;
 
-use common::total_d;
+use common::{d_by_region, total_d};
 use compare::gen::cases;
 use compare::model::mesh::mesh_rule;
 use compare::model::{open, run, summary, Call, Outcome, Patch};
@@ -57,8 +57,9 @@ fn untouched(call: &Call, before: &Patch) -> Patch {
 }
 
 #[test]
-fn a_written_block_keeps_points_kept_rows_mesh_rule_and_total_d() {
-    for case in cases(13, 4_000) {
+fn a_written_block_keeps_points_kept_rows_mesh_rule_and_total_d_of_each_region() {
+    let [mut removals, mut edges, mut faces] = [0; 3];
+    for case in cases(13, 8_000) {
         let block = match &case.call {
             Call::Remove { block, .. } | Call::Flip { block, .. } => block,
             _ => continue,
@@ -72,11 +73,21 @@ fn a_written_block_keeps_points_kept_rows_mesh_rule_and_total_d() {
         assert_eq!(after.rows[..kept.rows.len()], kept.rows[..]);
         assert!(mesh_rule(&after.rows, after.points.len()));
         assert_eq!(total_d(&after), total_d(&before));
+        assert_eq!(d_by_region(&after), d_by_region(&before));
         assert_eq!(after.to_bytes()[..], out[..]);
         let counts = summary(&out).unwrap();
         assert_eq!(
             counts.upright + counts.flat + counts.inverted,
             after.rows.len()
         );
+        match &case.call {
+            Call::Flip { numbers, .. } if numbers.len() == 3 => faces += 1,
+            Call::Flip { .. } => edges += 1,
+            _ => removals += 1,
+        }
     }
+    assert!(
+        removals > 500 && edges > 80 && faces > 200,
+        "{removals} {edges} {faces}"
+    );
 }

@@ -4,7 +4,7 @@ mod common;
 
 use common::*;
 use compare::model::block::with_sums;
-use compare::model::{answer, flip, open, seal, Patch};
+use compare::model::{answer, flip, open, seal, Patch, Row};
 
 /// One way to spoil the fields of block A for each of the answers 3 to 8.
 fn spoil(fields: &mut [u8; 508], number: u32) {
@@ -125,6 +125,81 @@ fn a_wrong_length_comes_before_room() {
         remove_answer(&linked(&circle(2, 60)), 0, 1),
         answer::RING_LENGTH
     );
+}
+
+/// The answer of a removal, or of a 3-2 flip, whichever of the edge's rows alone has another region.
+#[track_caller]
+fn in_regions(patch: &Patch, number: u32, answer_of: fn(&Patch) -> u32) {
+    let joints = in_two_regions(patch, &[0, 1]);
+    assert!(joints.len() > 1);
+    for joint in joints {
+        assert_eq!(answer_of(&joint), number);
+    }
+}
+
+fn removed(patch: &Patch) -> u32 {
+    remove_answer(patch, 0, 1)
+}
+
+fn flipped(patch: &Patch) -> u32 {
+    flip_answer(patch, &[0, 1])
+}
+
+#[test]
+fn what_is_wrong_with_the_links_comes_before_two_regions() {
+    let two = [circle(2, 3), circle(5, 4)].concat();
+    let with_chain = [circle(2, 3), vec![(20, 21)]].concat();
+    let lengths = [circle(2, 2), circle(2, 11), circle(2, 60)];
+    for answer_of in [removed, flipped] {
+        in_regions(&linked(&two), answer::CIRCLES, answer_of);
+        in_regions(&linked(&with_chain), answer::OPEN, answer_of);
+        for length in &lengths {
+            in_regions(&linked(length), answer::RING_LENGTH, answer_of);
+        }
+    }
+    in_regions(&linked(&circle(2, 4)), answer::RING_LENGTH, flipped);
+    let long: Vec<(u8, u8)> = (2..12).map(|v| (v, v + 1)).collect();
+    in_regions(&linked(&long), answer::RING_LENGTH, removed);
+}
+
+#[test]
+fn not_flat_comes_before_two_regions() {
+    let mut bent = plate();
+    bent.points[2][2] -= 1;
+    in_regions(&bent, answer::NOT_FLAT, removed);
+    in_regions(&plate(), answer::TWO_REGIONS, removed);
+    in_regions(&plate(), answer::OPEN, flipped);
+}
+
+#[test]
+fn two_regions_come_before_room() {
+    for m in 5..=10 {
+        let full = filled(linked(&circle(2, m)), 60, m + 2);
+        assert_eq!(removed(&full), answer::ROOM);
+        in_regions(&full, answer::TWO_REGIONS, removed);
+    }
+    let mut full = plate();
+    full.points.resize(64, [1, 2, 3]);
+    let full = filled(full, 60, 6);
+    assert_eq!(removed(&full), answer::ROOM);
+    in_regions(&full, answer::TWO_REGIONS, removed);
+}
+
+#[test]
+fn two_regions_come_before_not_admissible_and_none_better() {
+    let mut blocked = block_a();
+    blocked.points.push([1, 2, 3]);
+    let (numbers, region) = ([5, 2, 3, 4], 7);
+    blocked.rows.push(Row { numbers, region });
+    for answer_of in [removed, flipped] {
+        assert_eq!(answer_of(&blocked), answer::NOT_ADMISSIBLE);
+        in_regions(&blocked, answer::TWO_REGIONS, answer_of);
+        in_regions(&block_a(), answer::TWO_REGIONS, answer_of);
+    }
+    let mut lower = block_a();
+    lower.points[0] = [4, 4, 7];
+    assert_eq!(removed(&lower), answer::NONE_BETTER);
+    in_regions(&lower, answer::TWO_REGIONS, removed);
 }
 
 #[test]

@@ -126,6 +126,17 @@ fn both_flips_of_block_a_print_their_new_rows() {
 }
 
 #[test]
+fn two_regions_print_answer_20() {
+    for joint in in_two_regions(&block_a(), &[0, 1]) {
+        assert_eq!(printout(&input(&joint, 0, 1)), "answer 20\n");
+        assert_eq!(flipped(&joint, &[1, 0]), "answer 20\n");
+    }
+    for joint in in_two_regions(&block_a_after(), &[2, 3, 4]) {
+        assert_eq!(flipped(&joint, &[4, 2, 3]), "answer 20\n");
+    }
+}
+
+#[test]
 fn a_refused_flip_prints_one_line() {
     assert_eq!(flipped(&block_a(), &[0, 255]), "answer 9\n");
     assert_eq!(flipped(&block_a(), &[0, 1, 1]), "answer 9\n");

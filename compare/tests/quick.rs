@@ -110,7 +110,8 @@ fn removals_are_the_same() {
     }
     assert!(count >= 5000, "{count} removals");
     let met = |number: u32| answers[number as usize] > 0;
-    let mut possible = (answer::DONE..=answer::NONE_BETTER).chain([answer::NOT_FLAT]);
+    let behind = [answer::NOT_FLAT, answer::TWO_REGIONS];
+    let mut possible = (answer::DONE..=answer::NONE_BETTER).chain(behind);
     assert!(possible.all(met), "{answers:?}");
 }
 

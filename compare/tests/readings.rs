@@ -3,7 +3,7 @@
 mod common;
 
 use common::*;
-use compare::model::{answer, remove, Patch, Quality, Removal, Row, Summary};
+use compare::model::{answer, flip, open, remove, Patch, Quality, Removal, Row, Summary};
 
 fn removed(patch: &Patch) -> Removal {
     let mut out = UNTOUCHED;
@@ -26,16 +26,94 @@ fn better_is_measured_against_the_removed_rows() {
     assert_eq!(Summary::of(&patch).worst, Summary::of(&removal.after).worst);
 }
 
+/// Block A, two rows of its result, and the plate: an edge that is removed or flipped, a face, and an edge with a chain.
+fn sites() -> [(Patch, &'static [u8]); 3] {
+    [
+        (block_a(), &[0, 1]),
+        (block_a_after(), &[2, 3, 4]),
+        (plate(), &[0, 1]),
+    ]
+}
+
+/// The patches that a removal and a flip leave, or their answers; a face is only flipped.
+fn left(patch: &Patch, numbers: &[u8]) -> Vec<Result<Patch, u32>> {
+    let numbers: Vec<usize> = numbers.iter().copied().map(usize::from).collect();
+    let (block, mut out) = (patch.to_bytes(), UNTOUCHED);
+    let flipped = match flip(&block, &numbers, &mut out) {
+        answer::DONE => Ok(open(&out).expect("it opens")),
+        number => Err(number),
+    };
+    let removed = match numbers[..] {
+        [a, b] => Some(remove(&block, a, b, &mut UNTOUCHED.clone()).map(|removal| removal.after)),
+        _ => None,
+    };
+    removed.into_iter().chain([flipped]).collect()
+}
+
 #[test]
-fn the_region_is_that_of_the_first_removed_row_in_the_table() {
-    let mut patch = block_a();
-    patch.rows.rotate_left(1);
-    for (index, row) in patch.rows.iter_mut().enumerate() {
+fn rows_of_one_region_leave_rows_of_that_region() {
+    for (mut patch, numbers) in sites() {
+        for region in 0..=255 {
+            patch.rows.iter_mut().for_each(|row| row.region = region);
+            for after in left(&patch, numbers) {
+                let Ok(after) = after else {
+                    assert_eq!((after, &patch.points), (Err(answer::OPEN), &plate().points));
+                    continue;
+                };
+                assert!(after.rows.iter().all(|row| row.region == region));
+            }
+        }
+    }
+}
+
+/// Every row with every other region, also one that only its upper bits tell from the others.
+#[test]
+fn rows_of_more_than_one_region_are_refused() {
+    for (patch, numbers) in sites() {
+        for at in 0..patch.rows.len() {
+            for change in 1..=255 {
+                let mut other = patch.clone();
+                other.rows[at].region ^= change;
+                for after in left(&other, numbers) {
+                    let open = patch == plate() && after == Err(answer::OPEN);
+                    assert!(open || after == Err(answer::TWO_REGIONS), "{after:?}");
+                }
+            }
+        }
+    }
+    let mut each_another = block_a();
+    for (index, row) in each_another.rows.iter_mut().enumerate() {
         row.region = 10 + index as u8;
     }
-    let removal = removed(&patch);
-    assert_eq!(removal.ring, [2, 3, 4]);
-    assert!(removal.new_rows.iter().all(|row| row.region == 10));
+    assert_eq!(remove_answer(&each_another, 0, 1), answer::TWO_REGIONS);
+    assert_eq!(flip_answer(&each_another, &[0, 1]), answer::TWO_REGIONS);
+}
+
+/// Rows that hold one end of the edge, two points of the face, or nothing of either.
+#[test]
+fn the_regions_of_kept_rows_do_not_matter() {
+    for (mut patch, numbers) in sites() {
+        let rows = patch.rows.len();
+        let expected = left(&patch, numbers);
+        patch.points.resize(20, [9, 9, 9]);
+        for (region, four) in [
+            (0, [0, 17, 18, 19]),
+            (9, [19, 2, 18, 1]),
+            (8, [3, 2, 16, 18]),
+        ] {
+            patch.rows.insert(
+                0,
+                Row {
+                    numbers: four,
+                    region,
+                },
+            );
+        }
+        for (after, expected) in left(&patch, numbers).into_iter().zip(expected) {
+            let new = |patch: Patch| patch.rows[patch.rows.len() - rows + 1..].to_vec();
+            assert_eq!(after.map(new), expected.map(new));
+        }
+    }
 }
 
 #[test]

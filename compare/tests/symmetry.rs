@@ -1,12 +1,12 @@
-//! What does not matter: the order of the ends, and of the rows and their numbers up to what
-//! the requirement says of kept rows and the region.
+//! What does not matter: the order of the ends, and of the rows and their numbers up to what the requirement says of kept
+//! rows.
 
 mod common;
 
 use common::*;
 use compare::gen::{cases, Random};
 use compare::model::removal::removal;
-use compare::model::{flip, run, Call, Outcome, Row, Summary};
+use compare::model::{answer, flip, open, run, Call, Outcome, Row, Summary};
 
 fn swapped(call: &Call) -> Option<Call> {
     let mut other = call.clone();
@@ -36,7 +36,7 @@ fn either_order_of_the_numbers_has_the_same_outcome() {
 }
 
 #[test]
-fn row_order_and_even_rearrangement_change_only_kept_rows_and_region() {
+fn row_order_and_even_rearrangement_change_only_kept_rows() {
     let mut random = Random::of_case(3, 0);
     for (patch, [a, b]) in edges(3, 2_500) {
         let other = rearranged(&patch, &mut random);
@@ -47,21 +47,48 @@ fn row_order_and_even_rearrangement_change_only_kept_rows_and_region() {
             .copied()
             .filter(|row| !holds(row, a, b))
             .collect();
-        let first = other.rows.iter().find(|row| holds(row, a, b)).copied();
         match (removal(patch, a, b), removal(other, a, b)) {
             (Ok(one), Ok(two)) => {
-                let numbers = |rows: &[Row]| rows.iter().map(|r| r.numbers).collect::<Vec<_>>();
                 assert_eq!(one.ring, two.ring);
-                assert_eq!(numbers(&one.new_rows), numbers(&two.new_rows));
+                assert_eq!(one.new_rows, two.new_rows);
                 assert_eq!(one.page, two.page);
                 assert_eq!(Summary::of(&one.after), Summary::of(&two.after));
                 assert_eq!(two.after.rows[..kept.len()], kept[..]);
-                let region = first.unwrap().region;
-                assert!(two.new_rows.iter().all(|row| row.region == region));
             }
             (one, two) => assert_eq!(one.err(), two.err()),
         }
     }
+}
+
+/// The three numbers of a face in any order, too.
+#[test]
+fn a_flip_writes_the_same_rows_behind_the_kept_ones_whatever_their_order() {
+    let mut random = Random::of_case(6, 0);
+    let [mut done, mut refused] = [0; 2];
+    for case in cases(6, 6_000) {
+        let Call::Flip { block, numbers, .. } = &case.call else {
+            continue;
+        };
+        let Ok(patch) = open(block) else {
+            continue;
+        };
+        let other = rearranged(&patch, &mut random).to_bytes();
+        let [mut one, mut two] = [UNTOUCHED; 2];
+        let number = flip(block, numbers, &mut one);
+        assert_eq!(flip(&other, numbers, &mut two), number);
+        if number != 0 {
+            refused += usize::from(number == answer::TWO_REGIONS);
+            continue;
+        }
+        let [one, two] = [one, two].map(|block| open(&block).expect("it opens").rows);
+        let new = match numbers.len() {
+            2 => 2,
+            _ => 3,
+        };
+        assert_eq!(one[one.len() - new..], two[two.len() - new..]);
+        done += 1;
+    }
+    assert!(done > 200 && refused > 200, "{done} {refused}");
 }
 
 fn holds(row: &Row, a: usize, b: usize) -> bool {

@@ -46,17 +46,18 @@ fn each_has_m_minus_2_triangles_every_side_once_and_every_diagonal_twice() {
     }
 }
 
-/// Of rings and chains that are refused too: also those of two points, bent ones, and where there is no room.
+/// Of rings and chains that are refused too: also those of two points, bent ones, and where there is no room. Each region has
+/// its own total, of kept rows too; only rows of more than one region have no triangulation.
 #[test]
-fn total_d_is_kept_by_every_triangulation_but_those_of_a_bent_chain() {
+fn total_d_of_each_region_is_kept_by_every_triangulation_but_those_of_a_bent_chain() {
     let [mut rings, mut flat, mut bent] = [0; 3];
     for (patch, [a, b]) in edges(18, 1_500) {
         let Ok(site) = site(&patch, a, b) else {
             continue;
         };
-        if site.m() > LONGEST_RING {
+        let Some(region) = site.region.filter(|_| site.m() <= LONGEST_RING) else {
             continue;
-        }
+        };
         let back = [site.a, site.b, site.v(site.m()), site.v(1)];
         let back = determinant(back.map(|number| patch.points[usize::from(number)]));
         let (change, met) = match (site.closed, back) {
@@ -65,9 +66,12 @@ fn total_d_is_kept_by_every_triangulation_but_those_of_a_bent_chain() {
             (false, _) => (back, &mut bent),
         };
         *met += 1;
-        for way in ways(1, site.m()).iter().step_by(7) {
+        let mut totals = d_by_region(&patch);
+        totals[usize::from(region)] += change;
+        for way in ways(1, site.m()) {
             let after = site.patch_after(&patch, &new_rows(&site, way));
             assert_eq!(total_d(&after), total_d(&patch) + change);
+            assert_eq!(d_by_region(&after), totals);
         }
     }
     assert!(

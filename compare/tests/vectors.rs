@@ -1,5 +1,8 @@
 //! The stored cases of the program `vectors` are what the model writes, and cover what they are for.
 
+mod common;
+
+use common::region_points;
 use compare::gen::Case;
 use compare::model::{run, Outcome};
 use compare::rivals::{FAULTS, FLIP_FAULTS};
@@ -29,15 +32,17 @@ const POSSIBLE: [(&str, &[u32]); 7] = [
     ("summary", &[0, 1, 2, 3, 4, 5, 6, 7, 8]),
     (
         "remove",
-        &[0, 1, 2, 3, 4, 5, 6, 7, 8, 9, 10, 11, 12, 13, 14, 15, 16, 19],
+        &[
+            0, 1, 2, 3, 4, 5, 6, 7, 8, 9, 10, 11, 12, 13, 14, 15, 16, 19, 20,
+        ],
     ),
     (
         "flip 3-2",
-        &[0, 1, 2, 3, 4, 5, 6, 7, 8, 9, 10, 11, 12, 13, 15],
+        &[0, 1, 2, 3, 4, 5, 6, 7, 8, 9, 10, 11, 12, 13, 15, 20],
     ),
     (
         "flip 2-3",
-        &[0, 1, 2, 3, 4, 5, 6, 7, 8, 9, 10, 11, 14, 15, 18],
+        &[0, 1, 2, 3, 4, 5, 6, 7, 8, 9, 10, 11, 14, 15, 18, 20],
     ),
     ("flip, other count", &[1, 2, 3, 4, 5, 6, 7, 8, 21]),
 ];
@@ -84,7 +89,9 @@ fn rings_and_chains_of_every_length_get_every_outcome() {
             shows(&format!("ring, m = {m}: {answer}"));
             shows_often(&format!("chain, m = {m}: {answer}"), 1);
         }
+        shows_often(&format!("ring, m = {m}: 20"), 1);
         shows_often(&format!("chain, m = {m}: 19"), 1);
+        shows_often(&format!("chain, m = {m}: 20"), 1);
     }
     for m in 5..=10 {
         shows(&format!("ring, m = {m}: 14"));
@@ -121,6 +128,13 @@ fn chains_are_flat_bent_shut_and_not_alone() {
         "chain, 19: D is 1 to 128 in size",
     ];
     points.into_iter().for_each(shows);
+}
+
+#[test]
+fn regions_are_shared_in_every_way_and_tested_in_their_place() {
+    for name in region_points() {
+        shows_often(&name, 1);
+    }
 }
 
 #[test]

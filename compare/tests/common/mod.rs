@@ -9,6 +9,7 @@ use compare::model::limits::BLOCK_BYTES;
 use compare::model::measure::determinant;
 use compare::model::mesh::{even_arrangements, mesh_rule, EVEN};
 use compare::model::{open, Call, Patch, Point, Row};
+use compare::tally::{SHARED_IN_TABLE, SHARED_ROUND_EDGE};
 
 /// A patch of these points and rows, all rows in one region.
 pub fn patch(points: &[Point], rows: &[[u8; 4]], region: u8) -> Patch {
@@ -109,6 +110,58 @@ pub fn tetrahedra(patch: &Patch) -> Vec<Row> {
     let mut rows: Vec<Row> = patch.rows.iter().map(least).collect();
     rows.sort_unstable();
     rows
+}
+
+/// The patch once for each row that holds the numbers, with another region in that row alone.
+pub fn in_two_regions(patch: &Patch, numbers: &[u8]) -> Vec<Patch> {
+    let places = 0..patch.rows.len();
+    let going = places.filter(|at| patch.rows[*at].holds(numbers));
+    let with_other = |at: usize| {
+        let mut other = patch.clone();
+        other.rows[at].region ^= 128;
+        other
+    };
+    going.map(with_other).collect()
+}
+
+/// What cases of several regions have to show, by its name in a tally.
+pub fn region_points() -> Vec<String> {
+    let otherwise: [(&str, &[u32]); 4] = [
+        ("ring", &[0, 14, 15, 16]),
+        ("chain", &[0, 14, 15, 16]),
+        ("3-2 flip", &[0, 15]),
+        ("2-3 flip", &[0, 14, 15]),
+    ];
+    let before: [(&str, &[u32]); 5] = [
+        ("ring", &[13]),
+        ("chain", &[13, 19]),
+        ("several rings or chains", &[11, 12]),
+        ("3-2 flip", &[11, 12, 13]),
+        ("2-3 flip", &[18]),
+    ];
+    let mut names = vec![String::from("2-3 flip, 20: the lower four bits agree")];
+    for (kind, numbers) in otherwise {
+        names.extend(numbers.iter().map(|n| format!("{kind}, 20: otherwise {n}")));
+    }
+    for (kind, numbers) in before {
+        names.extend(numbers.iter().map(|n| format!("{kind}: {n} before 20")));
+    }
+    for kind in ["ring", "chain", "3-2 flip"] {
+        names.extend(SHARED_IN_TABLE.map(|sharing| format!("{kind}, 20: {sharing}")));
+    }
+    for kind in ["ring", "chain"] {
+        names.extend(SHARED_ROUND_EDGE.map(|sharing| format!("{kind}, 20: {sharing}")));
+    }
+    names
+}
+
+/// For each region number the total D of the rows of that region.
+pub fn d_by_region(patch: &Patch) -> [i64; 256] {
+    let mut totals = [0; 256];
+    for row in &patch.rows {
+        totals[usize::from(row.region)] += determinant(patch.corners(row));
+    }
+    totals
 }
 
 /// The total D of all rows.
