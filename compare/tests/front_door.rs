@@ -7,7 +7,7 @@ use common::*;
 use compare::gen::cases;
 use compare::model::limits::{BLOCK_BYTES, INPUT_BYTES};
 use compare::model::printout::flip_printout;
-use compare::model::{answer, printout, remove, shown, Call, PageRow, Patch, Row, Summary};
+use compare::model::{answer, open, printout, remove, shown, Call, PageRow, Patch, Row, Summary};
 use std::ffi::OsStr;
 use std::fs;
 use std::path::PathBuf;
@@ -35,18 +35,23 @@ fn patch_of(text: &str) -> Patch {
 }
 
 /// The samples with the edge that their texts speak of, and the answer there.
-const SAMPLES: [(&str, u8, u8, u32); 5] = [
+const SAMPLES: [(&str, u8, u8, u32); 6] = [
     ("block_a", 0, 1, answer::DONE),
     ("blocked", 0, 1, answer::NOT_ADMISSIBLE),
+    ("joint", 0, 1, answer::TWO_REGIONS),
     ("low_apex", 0, 1, answer::NONE_BETTER),
     ("plate", 0, 1, answer::DONE),
     ("sliver", 9, 27, answer::DONE),
 ];
 
+fn sample_block(name: &str) -> Vec<u8> {
+    let path = house().join("samples").join(name).with_extension("patch");
+    fs::read(path).expect("a sample")
+}
+
 /// The program's input for a sample.
 fn sample_input((name, a, b, _): (&str, u8, u8, u32)) -> Vec<u8> {
-    let path = house().join("samples").join(name).with_extension("patch");
-    [&fs::read(path).expect("a sample")[..], &[a, b]].concat()
+    [&sample_block(name)[..], &[a, b]].concat()
 }
 
 fn samples() -> Vec<PathBuf> {
@@ -82,10 +87,23 @@ fn a_sample_has_the_answer_that_its_text_says() {
             "{name}: {text}"
         );
     }
-    assert_eq!(
-        fs::read(house().join("samples/plate.patch")).expect("a sample"),
-        plate().to_bytes()
-    );
+    assert_eq!(sample_block("plate"), plate().to_bytes());
+}
+
+/// The joint is upright, and its removal is refused for its regions only; a flip of a face between copper and epoxy is, too.
+#[test]
+fn the_joint_is_refused_for_its_two_materials_alone() {
+    let joint = open(&sample_block("joint")).expect("it opens");
+    assert_eq!(Summary::of(&joint).upright, joint.rows.len());
+    assert_eq!(remove_answer(&joint, 0, 1), answer::TWO_REGIONS);
+    assert_eq!(flip_answer(&joint, &[0, 1, 2]), answer::TWO_REGIONS);
+    assert_eq!(flip_answer(&joint, &[0, 1, 3]), answer::DONE);
+    let mut one_material = joint;
+    for row in &mut one_material.rows {
+        row.region = 1;
+    }
+    assert_eq!(remove_answer(&one_material, 0, 1), answer::DONE);
+    assert_eq!(flip_answer(&one_material, &[0, 1, 2]), answer::DONE);
 }
 
 #[test]
@@ -174,6 +192,9 @@ fn the_script_prints_the_models_printout_of_a_flip() {
     assert!(flip_held(&after, &[2, 3, 4]).starts_with("answer 0\n"));
     flip_held(&before, &[0, 255]);
     flip_held(&after, &[2, 3, 255]);
+    let joint = sample_block("joint");
+    assert_eq!(flip_held(&joint, &[0, 1, 2]), "answer 20\n");
+    assert!(flip_held(&joint, &[0, 1, 3]).starts_with("answer 0\n"));
     for input in SAMPLES.map(sample_input) {
         let (block, ends) = input.split_at(BLOCK_BYTES);
         flip_held(block, ends);

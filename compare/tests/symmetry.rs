@@ -108,7 +108,7 @@ fn an_odd_rearrangement_matters() {
 #[test]
 fn the_3_2_flip_writes_what_the_removal_of_a_ring_of_3_writes() {
     let (mut agreed, mut open) = (0, 0);
-    for (patch, [a, b]) in edges(4, 3_000) {
+    for (patch, [a, b]) in edges(4, 4_000) {
         let block = patch.to_bytes();
         let held = patch.rows.iter().filter(|row| holds(row, a, b)).count();
         if let Ok(removal) = removal(patch, a, b) {
@@ -127,7 +127,7 @@ fn the_3_2_flip_writes_what_the_removal_of_a_ring_of_3_writes() {
             }
         }
     }
-    assert!(agreed > 20 && open > 20);
+    assert!(agreed > 20 && open > 20, "{agreed} {open}");
 }
 
 #[test]

@@ -13,10 +13,16 @@ use std::collections::BTreeMap;
 const SEED: u64 = 1;
 const COUNT: u64 = 10_000;
 
-/// How many cases show a thing: one for each length and outcome of a chain, which the fine points show again, and one for each
+/// How many cases show a thing: one for each length and outcome of a chain, which the fine points show again, one for each
+/// way to share several regions and each length of a ring that has them, which the wrong kernels show again, and one for each
 /// refusal of a flip before its count is looked at.
 fn wanted(reason: &str) -> usize {
-    match reason.starts_with("chain, m = ") || reason.starts_with("flip, other count") {
+    let chain = reason.starts_with("chain, m = ");
+    let other_count = reason.starts_with("flip, other count");
+    let regions = [", 20: ", ": 20", " before 20"]
+        .iter()
+        .any(|part| reason.contains(part));
+    match chain || other_count || regions {
         true => 1,
         false => 2,
     }
