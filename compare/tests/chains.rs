@@ -7,7 +7,7 @@ use compare::model::mesh::mesh_rule;
 use compare::model::pieces::Pieces;
 use compare::model::removal::{is_flat, removable_site};
 use compare::model::ring::{site, Site};
-use compare::model::{answer, printout, remove, Patch, Point, Removal, Row};
+use compare::model::{answer, printout, remove, Patch, Removal, Row};
 
 /// The plate with two points above it, 6 and 7, and these rows more.
 fn with_rows(rows: &[[u8; 4]]) -> Patch {
@@ -23,20 +23,6 @@ fn with_rows(rows: &[[u8; 4]]) -> Patch {
 fn removed(patch: &Patch, a: usize, b: usize) -> Removal {
     let mut out = UNTOUCHED;
     remove(&patch.to_bytes(), a, b, &mut out).expect("done")
-}
-
-/// The chain from 2 to m + 1 round the edge 0, 1, with vm in one plane with the edge and v1, or not.
-fn chain(m: u8, flat: bool) -> Patch {
-    let places = (0..64u8).map(|n| [n.wrapping_mul(37) % 129, n.wrapping_mul(11) % 129, n]);
-    let mut places: Vec<Point> = places.collect();
-    let last = usize::from(m) + 1;
-    places[1] = [100, 3, 0];
-    for place in [0, 1, 2, last] {
-        places[place][2] = 60;
-    }
-    places[last][2] += u8::from(!flat);
-    let rows: Vec<[u8; 4]> = (2..m + 1).map(|v| [0, 1, v, v + 1]).collect();
-    patch(&places, &rows, 1)
 }
 
 #[test]

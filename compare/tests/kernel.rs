@@ -48,7 +48,7 @@ mod held {
 
     #[test]
     fn on_generated_cases() {
-        Held::of(cases(1, CASES).map(|case| case.call)).expect(62_000);
+        Held::of(cases(1, CASES).map(|case| case.call)).expect(74_000);
     }
 
     #[test]
@@ -114,6 +114,17 @@ mod held {
             .flat_map(|a| numbers.iter().map(move |b| (*a, *b)))
             .flat_map(|(a, b)| calls_on(&block, [a, b, 4]));
         Held::of(calls).expect(CALLS * 169);
+    }
+
+    /// Of rings of 3 to 10 rows and chains of 2 to 9, and of two rows on a face.
+    #[test]
+    fn on_every_way_to_share_two_regions() {
+        let round_an_edge = rings_and_chains().flat_map(shared_in_every_way);
+        let calls = round_an_edge.flat_map(|(patch, _)| calls_on(&patch.to_bytes(), [0, 1, 2]));
+        Held::of(calls).expect(CALLS * (2_040 + 1_020));
+        let on_a_face = shared_in_every_way(block_a_after());
+        let calls = on_a_face.flat_map(|(patch, _)| calls_on(&patch.to_bytes(), [2, 3, 4]));
+        Held::of(calls).expect(CALLS * 4);
     }
 
     #[test]

@@ -89,6 +89,27 @@ fn rows_of_more_than_one_region_are_refused() {
     assert_eq!(flip_answer(&each_another, &[0, 1]), answer::TWO_REGIONS);
 }
 
+#[test]
+fn only_one_region_is_taken_of_every_way_to_share_two() {
+    let [mut taken, mut refused] = [0; 2];
+    for (patch, one) in rings_and_chains().flat_map(shared_in_every_way) {
+        let number = remove_answer(&patch, 0, 1);
+        match one {
+            true => assert!([answer::DONE, answer::NONE_BETTER].contains(&number)),
+            false => assert_eq!(number, answer::TWO_REGIONS),
+        }
+        taken += usize::from(number == answer::DONE);
+        refused += usize::from(!one);
+    }
+    assert!(taken > 10 && refused > 3_000, "{taken} {refused}");
+    for (patch, one) in shared_in_every_way(block_a()) {
+        assert_eq!(flip_answer(&patch, &[0, 1]) == answer::DONE, one);
+    }
+    for (patch, one) in shared_in_every_way(block_a_after()) {
+        assert_eq!(flip_answer(&patch, &[2, 3, 4]) == answer::DONE, one);
+    }
+}
+
 /// Rows that hold one end of the edge, two points of the face, or nothing of either.
 #[test]
 fn the_regions_of_kept_rows_do_not_matter() {

@@ -3,15 +3,7 @@
 mod common;
 
 use common::*;
-use compare::model::{answer, Patch};
-
-/// The edge 0, 1 with a ring of m points from 2 on, some of them on obstacles.
-fn ring(m: u8, obstacles: &[[u8; 4]]) -> Patch {
-    let places = (0..64u8).map(|n| [n.wrapping_mul(37) % 129, n.wrapping_mul(11) % 129, n]);
-    let links = (0..m).map(|step| [0, 1, 2 + step, 2 + (step + 1) % m]);
-    let rows: Vec<[u8; 4]> = links.chain(obstacles.iter().copied()).collect();
-    patch(&places.collect::<Vec<_>>(), &rows, 1)
-}
+use compare::model::answer;
 
 fn gets_14(m: u8, rows: usize) -> bool {
     let table = filled(ring(m, &[]), rows, m + 2);

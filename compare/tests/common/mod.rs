@@ -51,6 +51,49 @@ pub fn plate() -> Patch {
     patch(&points, &[[0, 1, 4, 2], [0, 1, 5, 4], [0, 1, 3, 5]], 7)
 }
 
+/// 64 points, no two in one place.
+fn scattered() -> Vec<Point> {
+    let places = (0..64u8).map(|n| [n.wrapping_mul(37) % 129, n.wrapping_mul(11) % 129, n]);
+    places.collect()
+}
+
+/// The edge 0, 1 with a ring of m points from 2 on, some of them on obstacles.
+pub fn ring(m: u8, obstacles: &[[u8; 4]]) -> Patch {
+    let links = (0..m).map(|step| [0, 1, 2 + step, 2 + (step + 1) % m]);
+    let rows: Vec<[u8; 4]> = links.chain(obstacles.iter().copied()).collect();
+    patch(&scattered(), &rows, 1)
+}
+
+/// The chain from 2 to m + 1 round the edge 0, 1, with vm in one plane with the edge and v1, or not.
+pub fn chain(m: u8, flat: bool) -> Patch {
+    let mut places = scattered();
+    let last = usize::from(m) + 1;
+    places[1] = [100, 3, 0];
+    for place in [0, 1, 2, last] {
+        places[place][2] = 60;
+    }
+    places[last][2] += u8::from(!flat);
+    let rows: Vec<[u8; 4]> = (2..m + 1).map(|v| [0, 1, v, v + 1]).collect();
+    patch(&places, &rows, 1)
+}
+
+/// Rings and flat chains of 3 to 10 points round the edge 0, 1; no other rows.
+pub fn rings_and_chains() -> impl Iterator<Item = Patch> {
+    (3..=10).flat_map(|m| [ring(m, &[]), chain(m, true)])
+}
+
+/// The patch with its rows in every way to have one of two regions, and whether they all have one.
+pub fn shared_in_every_way(patch: Patch) -> impl Iterator<Item = (Patch, bool)> {
+    let ways = 1 << patch.rows.len();
+    (0..ways).map(move |way: u32| {
+        let mut shared = patch.clone();
+        for (at, row) in shared.rows.iter_mut().enumerate() {
+            row.region = 5 + 16 * (way >> at & 1) as u8;
+        }
+        (shared, way == 0 || way == ways - 1)
+    })
+}
+
 /// An output block as it comes.
 pub const UNTOUCHED: [u8; BLOCK_BYTES] = [0xA5; BLOCK_BYTES];
 
