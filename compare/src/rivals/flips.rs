@@ -1,5 +1,5 @@
-//! Flips that get the count of their numbers wrong, or the regions of the rows that go. One whose removal is right and whose
-//! flip is not, or the other way round, has a fault of one of the two lists.
+//! Flips that get the count of their numbers wrong, or the regions of the rows that go. A kernel whose removal is right and
+//! whose flip is not has one of these faults and none of the removal's.
 
 use super::regions::{sees_several, Compared};
 use crate::model::block::open;
