@@ -4,4 +4,3 @@ pub mod MeshRuleStated
 pub mod EvenFaces
 pub mod TablesAlike
 pub mod OneWay
-pub mod RegionsIgnored

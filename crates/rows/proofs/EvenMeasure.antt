@@ -1,10 +1,11 @@
--- What even rearrangement keeps of the measure of a row: D and the quality. And a total D over part of a table and the rest is the whole.
+-- What even rearrangement keeps of the measure of a row: D and the quality. And a total D over parts of a table is that of the whole.
 use mathlib.Core.Bool.{Bool, true, false, cond, not}
-use mathlib.Core.List.{List, [], _∷_}
+use mathlib.Core.List.{List, [], _∷_, _++_}
 use mathlib.Core.Path.{_≡_, refl, sym, ap, _∙_}
 use lib.Dec.{T}
 use lib.IntN.{_+ℤ_, +ℤ-idl, +ℤ-assoc, +ℤ-comm}
 use Rattle.lists.specs.Lists.{those}
+use Rattle.lists.proofs.Sums.{sum-append}
 use Rattle.volume.specs.declared.Point.{Point}
 use Rattle.volume.proofs.VolumeIdentities.{D-even}
 use Rattle.quality.proofs.QualityArranged.{quality-even}
@@ -52,3 +53,8 @@ module _ (points : List Point) where
           let x = totalD points (those p rows) in
           let y = totalD points (those (λ row. not (p row)) rows) in
           sym (+ℤ-assoc x d y) ∙ ap (λ z. z +ℤ y) (+ℤ-comm x d) ∙ +ℤ-assoc d x y ∙ ap (λ z. d +ℤ z) e
+
+  -- the total of two tables together
+  pub total-append : (rows others : List Row) → totalD points (rows ++ others) ≡ totalD points rows +ℤ totalD points others
+  unfolding totalD
+  total-append rows others = sum-append (rowD points) rows others

@@ -1,4 +1,5 @@
 pub mod Rows
 pub mod Tetrahedra
 pub mod RowMeasure
+pub mod Regions
 pub mod Steps

@@ -1,9 +1,10 @@
-// The rows of a table, as a byte slice: reading and writing one, and which numbers a row holds.
+// The rows of a table, as a byte slice: reading and writing one, which numbers a row holds, and the regions of some rows.
 ghost use Prim.Native.Nat.{_+_, _*_, _≤_};
 ghost use mathlib.Core.Path.{_≡_};
 ghost use mathlib.Core.List.{[], _∷_};
 ghost use lib.ListN.{length};
 ghost use Rattle.rows.specs.Rows.{rowSize, rowIn, withRows, holds, holdsEdge, holdsFace};
+ghost use Rattle.rows.specs.Steps.{withRegion};
 
 // The bytes of a row.
 pub const ROW_SIZE: usize = 5;
@@ -82,4 +83,27 @@ pub fn holds_face(row: Row, x: u8, y: u8, z: u8) -> bool
         return false;
     }
     row_holds(row, z)
+}
+
+// The region of some rows, or that they have more than one.
+pub enum Regions {
+    One(u8),
+    Several,
+}
+
+impl Regions {
+    // With one row more behind them, of this region.
+    pub fn with(self, region: u8) -> Regions
+        ensures { λ r. ⌜ r ≡ withRegion self region ⌝ }
+    {
+        match self {
+            Regions::One(same) => {
+                if region == same {
+                    return Regions::One(same);
+                }
+                Regions::Several
+            }
+            Regions::Several => Regions::Several,
+        }
+    }
 }
