@@ -95,7 +95,7 @@ extern "C" {
 #define SUMPNEWT_STACK_SHOWN 1224
 #define SUMPNEWT_STACK_REMOVE 3480
 #define SUMPNEWT_STACK_PAGE 3784
-#define SUMPNEWT_STACK_FLIP 3464
+#define SUMPNEWT_STACK_FLIP 3480
 
 /* The answers, in the order in which they are tested. */
 enum {
@@ -118,6 +118,7 @@ enum {
     SUMPNEWT_RING_LENGTH = 13,   /* the points round the edge are fewer than 3 or more than 10 (3-2 flip: not 3) */
     SUMPNEWT_NOT_FLAT = 19,      /* removal: the ends of the open chain and of the edge are not in one plane */
     SUMPNEWT_ONE_APEX = 18,      /* 2-3 flip: both apexes are one point */
+    SUMPNEWT_TWO_REGIONS = 20,   /* the rows that go have more than one region */
     SUMPNEWT_NO_ROOM = 14,       /* rows afterwards would be over 60 */
     SUMPNEWT_BLOCKED = 15,       /* no triangulation is admissible (2-3 flip: the mesh rule would break) */
     SUMPNEWT_NONE_BETTER = 16    /* removal: each makes a tetrahedron no better than the worst round the edge now */
@@ -171,9 +172,9 @@ uint32_t sumpnewt_shown(const uint8_t *block, size_t n, double *out, size_t out_
 /*
  * Removes the edge between the points numbered a and b, in either order: of all ways to fill the room round it without
  * the edge that keep the mesh rule, the one whose worst tetrahedron is best, if that is better than the worst there now.
- * The tetrahedra round the edge close, or they are one open chain between two outer faces that make one plane.
- * The new block has the kept rows in order, then the new rows with the region of the first removed row; points stay.
- * out_n must be 512. Answers 0 to 16 and 19.
+ * The tetrahedra round the edge close, or they are one open chain between two outer faces that make one plane; and they are
+ * of one region. The new block has the kept rows in order, then the new rows with that region; points stay.
+ * out_n must be 512. Answers 0 to 16, 19 and 20.
  */
 uint32_t sumpnewt_remove(const uint8_t *block, size_t n, size_t a, size_t b, uint8_t *out, size_t out_n);
 
@@ -186,9 +187,9 @@ uint32_t sumpnewt_page(const uint8_t *block, size_t n, size_t a, size_t b, doubl
 /*
  * Flips, whatever the quality. Two numbers are the ends of an edge, in either order: the three rows that close round it
  * become two. Three numbers are a face, in any order: the two rows at it become three. Any other count gets 21.
- * The new block has the kept rows in order, then the new rows with the region of the first removed row; points stay.
- * out_n must be 512. Answers with two numbers: 0 to 13 and 15; 11 for every open case, 13 unless there are exactly three.
- * With three: 0 to 11, 18, 14 and 15. With any other count: 1 to 8 and 21. With count 0 numbers may be a null pointer.
+ * The rows that go must have one region. The new block has the kept rows in order, then the new rows with that region; points stay.
+ * out_n must be 512. Answers with two numbers: 0 to 13, 20 and 15; 11 for every open case, 13 unless there are exactly three.
+ * With three: 0 to 11, 18, 20, 14 and 15. With any other count: 1 to 8 and 21. With count 0 numbers may be a null pointer.
  */
 uint32_t sumpnewt_flip(const uint8_t *block, size_t n, const size_t *numbers, size_t count, uint8_t *out, size_t out_n);
 

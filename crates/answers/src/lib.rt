@@ -56,6 +56,9 @@ pub const ONE_APEX: u8 = 18;
 // The chain is not flat.
 pub const NOT_FLAT: u8 = 19;
 
+// The rows that go have more than one region.
+pub const TWO_REGIONS: u8 = 20;
+
 // Flip: neither two numbers nor three are given.
 pub const NOT_TWO_OR_THREE: u8 = 21;
 

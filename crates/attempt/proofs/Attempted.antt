@@ -75,9 +75,15 @@ module _ (block : List ℕ) (e f : ℕ) (opens : openAnswer block ≡ 0) (found 
         (found .ring)
     given = ringed orChains block e f opens found i h (min e f) (max e f) refl refl
 
-    -- 19, 14 to 16, and 0
+    -- 19, 20, 14 to 16, and 0
     pub tried-is : (planned : Plan) → Plans (edgeSite block e f) planned
-        → Attempts block e f (record { answer = planned .answer; closed = found .closed; ring = found .ring; apexes = planned .apexes })
+        → Attempts block e f (record {
+          answer = planned .answer;
+          closed = found .closed;
+          ring = found .ring;
+          region = planned .region;
+          apexes = planned .apexes;
+        })
     tried-is planned plans = record {
       answer = plans .answer ∙ ap answerOf plan-answer;
       done = λ z.
@@ -86,6 +92,7 @@ module _ (block : List ℕ) (e f : ℕ) (opens : openAnswer block ≡ 0) (found 
             ends = ends-bytes orChains block e f opens found i h;
             ringed = given;
             way = plan-way (coordinatesOf block) (pointCount block) (tableOf block) (rowCount block) (min e f) (max e f) given own;
+            own-region = plans .region own;
             room = plan-room (coordinatesOf block) (pointCount block) (tableOf block) (rowCount block) (min e f) (max e f) given own;
             stand = plans .apexes own;
           };

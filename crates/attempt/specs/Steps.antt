@@ -9,7 +9,7 @@ use Rattle.calls.specs.Removing.{removalTests}
 use Rattle.replacement.specs.Steps.{Replaceable}
 use Rattle.attempt.specs.declared.Tried.{Tried}
 
--- answers 9 to 16 and 19, tested from the top: those of a removal in a block that opens
+-- answers 9 to 16, 19 and 20, tested from the top: those of a removal in a block that opens
 unfoldable pub attemptAnswer : List ℕ → ℕ → ℕ → ℕ
 attemptAnswer block e f =
     let site = siteOf (fieldsOf block) e f in
@@ -18,4 +18,4 @@ attemptAnswer block e f =
 -- The answer and, with answer 0, what the replacement asks for.
 pub record Attempts (block : List ℕ) (e f : ℕ) (tried : Tried) : Type 0 where
   pub answer : tried .answer ≡ answerOf (attemptAnswer block e f)
-  pub done : attemptAnswer block e f ≡ 0 → Replaceable block e f (tried .closed) (tried .ring) (tried .apexes)
+  pub done : attemptAnswer block e f ≡ 0 → Replaceable block e f (tried .closed) (tried .ring) (tried .region) (tried .apexes)

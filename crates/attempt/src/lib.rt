@@ -13,11 +13,13 @@ use layout::ROWS_AT;
 use ring::Ring;
 use verdict::decide;
 
-// The answer and, with answer 0, the ring or chain, whether it is closed, and the apexes of the chosen triangulation.
+// The answer and, with answer 0, the ring or chain, whether it is closed, the region of the rows that go, and the apexes of the chosen
+// triangulation.
 pub struct Tried {
     pub answer: Answer,
     pub closed: bool,
     pub ring: Ring,
+    pub region: u8,
     pub apexes: [u8; CELLS],
 }
 
@@ -29,11 +31,13 @@ pub fn attempt(block: &[u8], e: usize, f: usize) -> Tried
     let found = edge_at(block, e, f, true);
     let answer = found.answer;
     let ring = found.ring;
+    let regions = found.regions;
     let Answer::Done = answer else {
         return Tried {
             answer,
             closed: found.closed,
             ring,
+            region: 0,
             apexes: [0; CELLS],
         };
     };
@@ -46,6 +50,7 @@ pub fn attempt(block: &[u8], e: usize, f: usize) -> Tried
         larger(e, f),
         found.closed,
         ring,
+        regions,
     );
     let answer = planned.answer;
     let apexes = planned.apexes;
@@ -53,6 +58,7 @@ pub fn attempt(block: &[u8], e: usize, f: usize) -> Tried
         answer,
         closed: found.closed,
         ring,
+        region: planned.region,
         apexes,
     }
 }

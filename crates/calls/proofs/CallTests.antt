@@ -9,6 +9,7 @@ use lib.Dec.{T, eqb}
 use lib.ListN.{length}
 use Rattle.lists.specs.Lists.{every}
 use Rattle.lists.proofs.Tests.{is-yes, neither-is, or-true, or-false}
+use Rattle.rows.specs.Regions.{mixed}
 use Rattle.mesh.specs.Mesh.{keepsMeshRule}
 use Rattle.answers.specs.declared.Answer.{Answer}
 use Rattle.answers.specs.declared.Answer.the-variants.{Done, Refused}
@@ -140,6 +141,7 @@ pub record Removes (block out : List ℕ) (e f : ℕ) : Type 0 where
   pub size : length out ≡ blockBytes
   pub length-right : lengthWrong (siteOf (fieldsOf block) e f) ≡ false
   pub closed-or-flat : notFlat (siteOf (fieldsOf block) e f) ≡ false
+  pub one-region : mixed (siteOf (fieldsOf block) e f .removed) ≡ false
   pub room : noRoom (siteOf (fieldsOf block) e f) ≡ false
   pub way : noWay (siteOf (fieldsOf block) e f) ≡ false
   pub better : noneBetter (siteOf (fieldsOf block) e f) ≡ false
@@ -155,12 +157,13 @@ removes block out e f h =
       size = size;
       length-right = passes 13 tests tt rest;
       closed-or-flat = passes 19 tests tt rest;
+      one-region = passes 20 tests tt rest;
       room = passes 14 tests tt rest;
       way = passes 15 tests tt rest;
       better = passes 16 tests tt rest;
     }
 
--- behind a sound edge and an output of the right length the answers 13 to 16 and 19 are left
+-- behind a sound edge and an output of the right length the answers 13 to 16, 19 and 20 are left
 pub remove-left : (block out : List ℕ) (e f : ℕ) → Sound block e f → length out ≡ blockBytes
     → removeAnswer block out e f ≡ firstRefusal (removalTests (siteOf (fieldsOf block) e f))
 unfolding removeAnswer
@@ -215,6 +218,7 @@ pub record Flips32 (block out : List ℕ) (e f : ℕ) : Type 0 where
   pub closed : siteOf (fieldsOf block) e f .closed ≡ true
   pub size : length out ≡ blockBytes
   pub three : m (siteOf (fieldsOf block) e f) ≡ minRing
+  pub one-region : mixed (siteOf (fieldsOf block) e f .removed) ≡ false
   pub way : noWay (siteOf (fieldsOf block) e f) ≡ false
 
 pub flips-32 : (block out : List ℕ) (e f : ℕ) → flipAnswer block out (e ∷ f ∷ []) ≡ 0 → Flips32 block out e f
@@ -229,6 +233,7 @@ flips-32 block out e f h =
       closed = closed refl;
       size = size;
       three = eqb-true (m site) minRing (not-false (eqb (m site) minRing) (passes 13 tests tt rest));
+      one-region = passes 20 tests tt rest;
       way = passes 15 tests tt rest;
     }
 
@@ -253,6 +258,7 @@ pub record Flips23 (block out : List ℕ) (x y z : ℕ) : Type 0 where
   pub some-row : length (pairOf (fieldsOf block) (x ∷ y ∷ z ∷ []) .removed) ≡ 0 → ⊥
   pub no-single : length (pairOf (fieldsOf block) (x ∷ y ∷ z ∷ []) .removed) ≡ 1 → ⊥
   pub apart : pairOf (fieldsOf block) (x ∷ y ∷ z ∷ []) .a ≡ pairOf (fieldsOf block) (x ∷ y ∷ z ∷ []) .b → ⊥
+  pub one-region : mixed (pairOf (fieldsOf block) (x ∷ y ∷ z ∷ []) .removed) ≡ false
   pub room : length (patchAfter23 (fieldsOf block) (x ∷ y ∷ z ∷ []) .rows) ≤ maxRows
   pub rule : T (keepsMeshRule (length (fieldsOf block .points)) (patchAfter23 (fieldsOf block) (x ∷ y ∷ z ∷ []) .rows))
 
@@ -274,6 +280,7 @@ flips-23 block out x y z h =
       some-row = eqb-false (length (pair .removed)) 0 (passes 10 tests tt rest);
       no-single = eqb-false (length (pair .removed)) 1 (passes 11 tests tt rest);
       apart = eqb-false (pair .a) (pair .b) (passes 18 tests tt rest);
+      one-region = passes 20 tests tt rest;
       room = ltb-false maxRows (length rows) (passes 14 tests tt rest);
       rule = is-yes (keepsMeshRule count rows) (not-false (keepsMeshRule count rows) (passes 15 tests tt rest));
     }

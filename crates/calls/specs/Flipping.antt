@@ -8,21 +8,23 @@ use lib.ListN.{length}
 use Rattle.lists.specs.Lists.{those, firstOr, has}
 use Rattle.rows.specs.declared.Row.{Row}
 use Rattle.rows.specs.Rows.{numbers, holdsFace, noRow}
+use Rattle.rows.specs.Regions.{regionOf, mixed}
 use Rattle.mesh.specs.Mesh.{keepsMeshRule}
 use Rattle.rows.specs.Tetrahedra.{arrangedFrom}
 use Rattle.layout.specs.Layout.{Patch, maxRows, fieldsOf, bytesOf}
 use Rattle.answers.specs.Answers.{Tests, firstRefusal, written}
 use Rattle.ring.specs.Ring.{Site, siteOf, m, minRing, numbersWrong, ringsAlone, edgeTests}
 use Rattle.walk.specs.Walk.{smallest}
-use Rattle.triangulation.specs.Triangulation.{regionOf, newRows}
+use Rattle.triangulation.specs.Triangulation.{newRows}
 use Rattle.triangulation.specs.Best.{chosen}
 use Rattle.calls.specs.Removing.{blockTests, noWay, patchAfter}
 
 -- ---- the 3-2 flip: removal of an edge with a closed ring of m = 3, with no quality test
 
--- answers 13 and 15 of a 3-2 flip; 13: m is not 3; one row fewer comes than goes, so there is always room
+-- answers 13, 20 and 15 of a 3-2 flip; 13: m is not 3; 20: the rows that go have more than one region; one row fewer comes than goes, so
+-- there is always room
 unfoldable pub flip32Tests : Site → Tests
-flip32Tests site = (13, not (eqb (m site) minRing)) ∷ (15, noWay site) ∷ []
+flip32Tests site = (13, not (eqb (m site) minRing)) ∷ (20, mixed (site .removed)) ∷ (15, noWay site) ∷ []
 
 -- ---- the 2-3 flip: a face in two rows
 
@@ -49,7 +51,8 @@ pairOf patch face =
     let rowOfA = firstOr noRow (λ row. eqb (apexOver face row) a) removed in
     record { removed = removed; kept = kept; a = a; b = b; rowOfA = rowOfA }
 
--- u is the smallest number of the face, and (a,u,v,w) an even arrangement of a's row: (a,b,u,v), (a,b,v,w), (a,b,w,u)
+-- u is the smallest number of the face, and (a,u,v,w) an even arrangement of a's row: (a,b,u,v), (a,b,v,w), (a,b,w,u), with the region of
+-- both removed rows
 unfoldable pub threeRows : Pair → List ℕ → List Row
 threeRows pair face =
     let t = arrangedFrom (pair .a) (smallest face) (pair .rowOfA) in
@@ -66,7 +69,7 @@ patchAfter23 patch face =
     let pair = pairOf patch face in
     record { points = patch .points; rows = pair .kept ++ threeRows pair face }
 
--- answers 9 to 15 of a 2-3 flip
+-- answers 9 to 11, 18, 20, 14 and 15 of a 2-3 flip
 unfoldable pub flip23Tests : Patch → List ℕ → Tests
 flip23Tests patch face =
     let count = length (patch .points) in
@@ -76,6 +79,7 @@ flip23Tests patch face =
     ∷ (10, eqb (length (pair .removed)) 0)
     ∷ (11, eqb (length (pair .removed)) 1)
     ∷ (18, eqb (pair .a) (pair .b))
+    ∷ (20, mixed (pair .removed))
     ∷ (14, ltb maxRows (length rows))
     ∷ (15, not (keepsMeshRule count rows)) ∷ []
 

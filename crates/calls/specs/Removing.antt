@@ -11,6 +11,7 @@ use Rattle.quality.specs.declared.Quality.{Quality}
 use Rattle.quality.specs.Quality.{worst, worse, zeroQuality}
 use Rattle.page.specs.Page.{shown, pageRow}
 use Rattle.rows.specs.RowMeasure.{rowQuality}
+use Rattle.rows.specs.Regions.{mixed}
 use Rattle.layout.specs.Layout.{Patch, maxRows, fieldsOf, bytesOf}
 use Rattle.answers.specs.Answers.{Tests, firstRefusal, written}
 use Rattle.block.specs.Opening.{notBlock, openAnswer}
@@ -51,15 +52,16 @@ noneBetter site = every (λ t. not (worse (worstNow site) (worstOfWay site 1 t))
 unfoldable pub patchAfter : Site → Patch
 patchAfter site = record { points = site .points; rows = tableAfter site (chosen site) }
 
--- answers 19 and 14 to 16 of a removal: whether the ring or chain is replaced
+-- answers 19, 20 and 14 to 16 of a removal: whether the ring or chain is replaced; 20: the rows that go have more than one region
 abbrev pub replacementTests : Site → Tests
 replacementTests site =
     (19, notFlat site)
+    ∷ (20, mixed (site .removed))
     ∷ (14, noRoom site)
     ∷ (15, noWay site)
     ∷ (16, noneBetter site) ∷ []
 
--- answers 13 to 16 of a removal, and 19 directly after 13
+-- answers 13 to 16 of a removal, 19 directly after 13 and 20 directly after 19
 unfoldable pub removalTests : Site → Tests
 removalTests site = lengthTests site ++ replacementTests site
 

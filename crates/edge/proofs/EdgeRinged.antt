@@ -7,6 +7,7 @@ use native.Mathlib.Omega.{arith}
 use borrow.Author.Tests.{ltb-false}
 use lib.Dec.{eqb, ltb}
 use lib.ListN.{getD}
+use Rattle.rows.specs.Steps.{regionsOf, noRegions}
 use Rattle.lists.specs.Lists.{every}
 use Rattle.lists.proofs.Places.{at-in}
 use Rattle.lists.proofs.Tests.{neither-is}
@@ -53,6 +54,12 @@ module _ (chains : Bool) (block : List ℕ) (e f : ℕ) (opens : openAnswer bloc
     pub own-closed : found .closed ≡ site .closed
     unfolding edgeFound
     own-closed = ap (λ (found : Found). found .closed) i ∙ ap (λ n. eqb n 0 && site .closed) edge-passes
+
+    pub own-regions : found .regions ≡ regionsOf (site .removed)
+    unfolding edgeFound
+    own-regions =
+        ap (λ (found : Found). found .regions) i
+        ∙ ap (λ n. cond (eqb n 0) (regionsOf (site .removed)) noRegions) edge-passes
 
     -- answers 9 to 12, by what the call takes
     pub edge-one : firstRefusal (edgeTests chains site e f) ≡ 0

@@ -3,6 +3,7 @@ use Prim.Native.Nat.{ℕ}
 use mathlib.Core.Bool.{Bool, false}
 use mathlib.Core.List.{List, [], _++_}
 use Rattle.answers.specs.declared.Answer.{Answer}
+use Rattle.rows.specs.Steps.{noRegions}
 use Rattle.layout.specs.Layout.{fieldsOf}
 use Rattle.answers.specs.Answers.{firstRefusal}
 use Rattle.tally.specs.Steps.{Measured}
@@ -22,7 +23,7 @@ edgeAnswer chains block e f =
 
 -- a refusal returns its number and nothing else
 abbrev pub foundNone : Answer → Found
-foundNone answer = record { answer = answer; closed = false; ring = ringWith [] }
+foundNone answer = record { answer = answer; closed = false; ring = ringWith []; regions = noRegions }
 
 -- the answer and the ring or chain
 unfoldable pub edgeFound : Bool → List ℕ → ℕ → ℕ → Found

@@ -11,6 +11,7 @@ use layout::BODY_BYTES;
 use layout::ROWS_AT;
 use ring::Found;
 use ring::Ring;
+use rows::Regions;
 
 // Answers 1 to 8 of a call with a block and an output block: both lengths before anything in the block.
 pub fn blocks_answer(block: &[u8], out: &[u8]) -> Answer
@@ -47,7 +48,7 @@ pub fn larger(e: usize, f: usize) -> u8
     e as u8
 }
 
-// A refusal stands beside no ring.
+// A refusal stands beside no ring and no rows.
 fn no_ring(answer: Answer) -> Found
     ensures { λ r. ⌜ r ≡ foundNone answer ⌝ }
 {
@@ -55,10 +56,12 @@ fn no_ring(answer: Answer) -> Found
         answer,
         closed: false,
         ring: Ring::EMPTY,
+        regions: Regions::One(0),
     }
 }
 
-// Answers 9 to 13 in a block that opens and, with answer 0, the ring round the edge or, where chains are taken too, the chain.
+// Answers 9 to 13 in a block that opens and, with answer 0, the ring round the edge or, where chains are taken too, the chain, and the
+// regions of its rows.
 pub fn edge_at(block: &[u8], e: usize, f: usize, chains: bool) -> Found
     requires { ⌜ openAnswer (now block) ≡ 0 ⌝ }
     ensures { λ r. ⌜ r ≡ edgeFound chains (now (block .entry)) e f ⌝ }

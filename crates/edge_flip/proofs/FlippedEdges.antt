@@ -1,4 +1,4 @@
--- The 3-2 flip of an edge in a block that opens: the edge's refusal, 13, 15, or the block afterwards.
+-- The 3-2 flip of an edge in a block that opens: the edge's refusal, 13, 20, 15, or the block afterwards.
 use Prim.Native.Nat.{ℕ, suc, _-_, _≤_, min, max}
 use mathlib.Core.Bool.{Bool, true, false, cond, not}
 use mathlib.Core.List.{List, [], _∷_, _++_}
@@ -12,6 +12,10 @@ use Rattle.lists.proofs.Lists.{those-split}
 use Rattle.quality.specs.declared.Quality.{Quality}
 use Rattle.rows.specs.declared.Row.{Row}
 use Rattle.rows.specs.Rows.{holdsEdge}
+use Rattle.rows.specs.Regions.{regionOf, mixed}
+use Rattle.rows.specs.Steps.{regionsOf}
+use Rattle.rows.specs.declared.Regions.the-variants.{One, Several}
+use Rattle.rows.proofs.RegionsRowByRow.{told-several, told-one}
 use Rattle.answers.specs.declared.Answer.{Answer}
 use Rattle.answers.specs.declared.Answer.the-variants.{Done, Refused}
 use Rattle.layout.specs.Layout.{blockBytes, bodyBytes, rowsAt, maxRows, pointCount, rowCount, coordinatesOf, tableOf, fieldsOf, sealed}
@@ -39,7 +43,7 @@ use Rattle.calls.proofs.FlipTold.{Told, flip-refused}
 use Rattle.calls.proofs.BestDecides.{chosen-rows}
 use Rattle.calls.proofs.SoundEdges.{sound-site, two-go}
 use Rattle.edge.specs.Steps.{edgeAnswer, edgeFound}
-use Rattle.edge.proofs.EdgeRinged.{found-refused, own-ring, edge-one, edge-sound, own-site}
+use Rattle.edge.proofs.EdgeRinged.{found-refused, own-ring, own-regions, edge-one, edge-sound, own-site}
 use Rattle.replacement.specs.declared.Way.{Way}
 use Rattle.replacement.specs.Steps.{BestWay, Carriable}
 use Rattle.replacement.proofs.MarkOfWay.{marked, unmarked}
@@ -128,6 +132,19 @@ module _ (block out : List ℕ) (e f : ℕ) where
           let other = ap not (ne-eqb (m site) minRing (λ q. d (ring-length ∙ q))) in
           refusal 12 (own-left ∙ stops 13 (flip32Tests site) flip-numbered refl other)
 
+      -- the regions of the rows that go
+      regions-are : found .regions ≡ regionsOf (site .removed)
+      regions-are = own-regions ringsAlone block e f opens found i h
+
+      pub several-regions : found .ring .m ≡ minRing → found .regions ≡ Several → Kept (Refused 20)
+      unfolding flip32Tests firstRefusal before testOf
+      several-regions three several =
+          let more = told-several (site .removed) (sym regions-are ∙ several) in
+          refusal 19 (own-left ∙ stops 20 (flip32Tests site) flip-numbered (rw (eq-eqb (m site) minRing (sym ring-length ∙ three))) more)
+
+      pub one-region : (region : ℕ) → found .regions ≡ One region → (mixed (site .removed) ≡ false) × (region ≡ regionOf (site .removed))
+      one-region region is = told-one (site .removed) (sym regions-are ∙ is)
+
       module _ (three : found .ring .m ≡ minRing) (a b : ℕ) (p : a ≡ min e f) (q : b ≡ max e f) where
         abbrev its : Site
         its = siteIn (coordinatesOf block) (pointCount block) (tableOf block) (rowCount block) a b
@@ -144,7 +161,7 @@ module _ (block out : List ℕ) (e f : ℕ) where
         room : rowsAfter site ≤ maxRows
         room = three-room block e f (edge-sound ringsAlone block e f opens found i h) three-points
 
-        module _ (way : Way) (is-best : BestWay its way) where
+        module _ (one : mixed (site .removed) ≡ false) (way : Way) (is-best : BestWay its way) where
           best-way : BestWay site way
           best-way = subst (λ (s : Site). BestWay s way) its-site is-best
 
@@ -152,7 +169,7 @@ module _ (block out : List ℕ) (e f : ℕ) where
           unfolding flip32Tests firstRefusal before testOf
           no-way mark =
               let none = marked site sound (omega (arith, three-points)) way best-way mark in
-              refusal 14 (own-left ∙ stops 15 (flip32Tests site) flip-numbered (rw (eq-eqb (m site) minRing three-points)) none)
+              refusal 14 (own-left ∙ stops 15 (flip32Tests site) flip-numbered (rw (eq-eqb (m site) minRing three-points, one)) none)
 
           module _ (best : Quality) (is : way .best ≡ Worst best) where
             some-way : noWay site ≡ false
@@ -160,10 +177,12 @@ module _ (block out : List ℕ) (e f : ℕ) where
 
             zero-answer : flipAnswer block out (e ∷ f ∷ []) ≡ 0
             unfolding flip32Tests firstRefusal
-            zero-answer = same-answer ∙ own-left ∙ rw (eq-eqb (m site) minRing three-points, some-way)
+            zero-answer = same-answer ∙ own-left ∙ rw (eq-eqb (m site) minRing three-points, one, some-way)
 
-            pub carriable : {rows : List ℕ} → length (way .apexes) ≡ cells → rows ≡ replicate tableBytes 0 → Carriable its (way .apexes) rows
-            carriable whole empty = record {
+            pub carriable : {region : ℕ} {rows : List ℕ} → region ≡ regionOf (site .removed) → length (way .apexes) ≡ cells
+                → rows ≡ replicate tableBytes 0 → Carriable its region (way .apexes) rows
+            carriable {region} own whole empty = record {
+              own-region = subst (λ (s : Site). region ≡ regionOf (s .removed)) (sym its-site) own;
               room = subst (λ (s : Site). rowsAfter s ≤ maxRows) (sym its-site) room;
               whole = whole;
               stand = is-best .apexes best (ap bestOf is);

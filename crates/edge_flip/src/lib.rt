@@ -16,6 +16,7 @@ use layout::POINTS_AT;
 use layout::ROWS_AT;
 use replacement::best_way;
 use replacement::carry_out;
+use rows::Regions;
 
 // The m of a 3-2 flip.
 const THREE: u8 = 3;
@@ -29,12 +30,16 @@ pub fn flip_edge(block: &[u8], e: usize, f: usize, out: &mut [u8]) -> Answer
     let found = edge_at(block, e, f, false);
     let answer = found.answer;
     let ring = found.ring;
+    let regions = found.regions;
     let Answer::Done = answer else {
         return answer;
     };
     if ring.m != THREE {
         return Answer::Refused(answers::RING_LENGTH);
     }
+    let Regions::One(region) = regions else {
+        return Answer::Refused(answers::TWO_REGIONS);
+    };
     let count = block[1] as usize;
     let n = block[2] as usize;
     let coordinates = &block[POINTS_AT..ROWS_AT];
@@ -57,6 +62,7 @@ pub fn flip_edge(block: &[u8], e: usize, f: usize, out: &mut [u8]) -> Answer
         b,
         found.closed,
         ring,
+        region,
         &apexes,
         &mut out[ROWS_AT..BODY_BYTES],
     );

@@ -8,7 +8,8 @@ use lib.Dec.{ltb}
 use lib.ListN.{getD}
 use Rattle.rows.specs.declared.Row.{Row}
 use Rattle.ring.specs.Ring.{Site}
-use Rattle.triangulation.specs.Triangulation.{Tri, side, cut, v, regionOf}
+use Rattle.rows.specs.Regions.{regionOf}
+use Rattle.triangulation.specs.Triangulation.{Tri, side, cut, v}
 use Rattle.kept_faces.specs.declared.Rim.{Rim}
 use Rattle.candidates.specs.declared.Bipyramid.{Bipyramid}
 use Rattle.cells.specs.Steps.{cellAt, apexIn}

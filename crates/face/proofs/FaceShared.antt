@@ -2,7 +2,7 @@
 -- A number at the end is the smallest, or the smallest is what it was; the first row of the smallest apex goes with it.
 use Prim.Native.Nat.{ℕ, suc, _+_, _≤_, _<_, min, max}
 use mathlib.Core.Bool.{Bool, true, false, cond, not}
-use mathlib.Core.List.{List, [], _∷_, _++_, map, foldr, append-nil, List·Memᴰ, Memᴰ·map, map-append, Memᴰ·of-map}
+use mathlib.Core.List.{List, [], _∷_, _++_, map, foldr, append-nil, List·Memᴰ, List·Memᴰ·head, Memᴰ·map, map-append, Memᴰ·of-map}
 use mathlib.Core.Logic.{_⊎_, inl, inr}
 use mathlib.Core.Option.{Option·getD}
 use mathlib.Core.Path.{_≡_, refl, sym, ap, _∙_, subst}
@@ -16,6 +16,9 @@ use Rattle.lists.proofs.Tests.{and-r, and-i, either, no-is, eq-test}
 use Rattle.lists.proofs.Lists.{every-at, any-i, any-e, those-e, those-append, those-split, first-front, first-behind, first-found}
 use Rattle.lists.proofs.Numbers.{has-i, has-e, no-more, max-more, min-more}
 use Rattle.rows.specs.declared.Row.{Row}
+use Rattle.rows.specs.declared.Regions.{Regions}
+use Rattle.rows.specs.Steps.{regionsOf, withRegion}
+use Rattle.rows.proofs.RegionsRowByRow.{one-met, more-met}
 use Rattle.rows.specs.Rows.{rowIn, rowsIn, numbers, holds, holdsFace, noRow}
 use Rattle.mesh.specs.Mesh.{numbersFit, keepsMeshRule}
 use Rattle.rows.proofs.RowsOfTables.{rows-more}
@@ -23,7 +26,6 @@ use Rattle.mesh.proofs.MeshRuleStated.{keeps-fits}
 use Rattle.walk.specs.Walk.{smallest}
 use Rattle.links.specs.Steps.{LinkedRow}
 use Rattle.walk.proofs.TheSmallest.{smallest-in, smallest-le}
-use Rattle.triangulation.specs.Triangulation.{regionOf}
 use Rattle.face.specs.declared.Sharing.{Sharing}
 use Rattle.calls.specs.Flipping.{apexOver, Pair, pairOf}
 use Rattle.face.specs.Steps.{sharingIn, withRow}
@@ -45,11 +47,11 @@ noted apex rows =
       a = a;
       b = foldr max 0 (map apex rows);
       row = firstOr noRow (λ row. eqb (apex row) a) rows;
-      region = regionOf rows;
+      regions = regionsOf rows;
     }
 
-same-sharing : {n m a b c d g h : ℕ} {r s : Row} → n ≡ m → a ≡ b → c ≡ d → r ≡ s → g ≡ h
-    → _≡_ {A = Sharing} (record { n = n; a = a; b = c; row = r; region = g }) (record { n = m; a = b; b = d; row = s; region = h })
+same-sharing : {n m a b c d : ℕ} {r s : Row} {g h : Regions} → n ≡ m → a ≡ b → c ≡ d → r ≡ s → g ≡ h
+    → _≡_ {A = Sharing} (record { n = n; a = a; b = c; row = r; regions = g }) (record { n = m; a = b; b = d; row = s; regions = h })
 same-sharing e f g h i = rw (e, f, g, h, i)
 
 -- some row has the smallest apex
@@ -96,6 +98,9 @@ module _ (apex : Row → ℕ) (r : Row) (rs : List Row) (row : Row) where
       n-more : length rows + 1 ≡ length (rows ++ row ∷ [])
       n-more = omega (arith, length-append rows (row ∷ []))
 
+      regions-next : withRegion (regionsOf rows) (row .region) ≡ regionsOf (rows ++ row ∷ [])
+      regions-next = more-met rows (List·Memᴰ·head refl) row
+
       found : ℕ → List Row → Row
       found a ts = firstOr noRow (λ t. eqb (apex t) a) ts
 
@@ -105,31 +110,31 @@ module _ (apex : Row → ℕ) (r : Row) (rs : List Row) (row : Row) where
             a = apex row;
             b = max (foldr max 0 (map apex rows)) (apex row);
             row = row;
-            region = r .region;
+            regions = withRegion (regionsOf rows) (row .region);
           })
           (record {
             n = length rows + 1;
             a = low;
             b = max (foldr max 0 (map apex rows)) (apex row);
             row = found low rows;
-            region = r .region;
+            regions = withRegion (regionsOf rows) (row .region);
           })
           ≡ noted apex (rows ++ row ∷ [])
       go true e =
           let h = ltb-true (apex row) low e in
           let is : smallest (map apex (rows ++ row ∷ [])) ≡ apex row = low-more ∙ omega arith in
-          same-sharing n-more (sym is) high-more (sym (ap (λ a. found a (rows ++ row ∷ [])) is ∙ row-below h)) refl
+          same-sharing n-more (sym is) high-more (sym (ap (λ a. found a (rows ++ row ∷ [])) is ∙ row-below h)) regions-next
       go false e =
           let h = ltb-false (apex row) low e in
           let is : smallest (map apex (rows ++ row ∷ [])) ≡ low = low-more ∙ omega arith in
-          same-sharing n-more (sym is) high-more (sym (ap (λ a. found a (rows ++ row ∷ [])) is ∙ row-above)) refl
+          same-sharing n-more (sym is) high-more (sym (ap (λ a. found a (rows ++ row ∷ [])) is ∙ row-above)) regions-next
 
 -- one row more
 noted-more : (apex : Row → ℕ) (rows : List Row) (row : Row) → withRow (noted apex rows) row (apex row) ≡ noted apex (rows ++ row ∷ [])
 unfolding withRow first smallest
 noted-more apex [] row =
     let high : apex row ≡ max (apex row) 0 = omega arith in
-    same-sharing refl refl high (rw (eq-eqb (apex row) (apex row) refl)) refl
+    same-sharing refl refl high (rw (eq-eqb (apex row) (apex row) refl)) (sym (one-met row))
 noted-more apex (r ∷ rs) row = noted-next apex r rs row
 
 module _ (face : List ℕ) (rows : List Row) (row : Row) where

@@ -13,6 +13,7 @@ ghost use Rattle.walk.specs.Walk.{smallest};
 ghost use Rattle.ring.specs.Ring.{numbersWrong};
 ghost use Rattle.calls.specs.Flipping.{apexOver};
 ghost use Rattle.face.specs.Steps.{sharingIn, withRow, threeOf};
+use rows::Regions;
 use rows::Row;
 
 // ---- the face
@@ -92,13 +93,13 @@ fn apex_over(row: Row, x: u8, y: u8, z: u8) -> u8
 
 // ---- the rows that hold the face
 
-// How many they are, the smaller apex and the other, the row of the smaller, and the region of the first in the table.
+// How many they are, the smaller apex and the other, the row of the smaller, and their regions.
 pub struct Sharing {
     pub n: usize,
     pub a: u8,
     pub b: u8,
     pub row: Row,
-    pub region: u8,
+    pub regions: Regions,
 }
 
 // One row more, with its apex.
@@ -112,19 +113,20 @@ fn with_row(found: Sharing, row: Row, apex: u8) -> Sharing
             a: apex,
             b: apex,
             row,
-            region: row.region,
+            regions: Regions::One(row.region),
         };
     }
     let n = found.n + 1;
     let b = greater(found.b, apex);
-    let region = found.region;
+    let before = found.regions;
+    let regions = before.with(row.region);
     if apex < found.a {
         return Sharing {
             n,
             a: apex,
             b,
             row,
-            region,
+            regions,
         };
     }
     let first = found.row;
@@ -133,7 +135,7 @@ fn with_row(found: Sharing, row: Row, apex: u8) -> Sharing
         a: found.a,
         b,
         row: first,
-        region,
+        regions,
     }
 }
 
@@ -153,7 +155,7 @@ pub fn share(table: &[u8], n: usize, x: u8, y: u8, z: u8) -> Sharing
             s: 0,
             region: 0,
         },
-        region: 0,
+        regions: Regions::One(0),
     };
     for i in 0..n {
         let row = rows::row_in(table, i);
@@ -166,12 +168,12 @@ pub fn share(table: &[u8], n: usize, x: u8, y: u8, z: u8) -> Sharing
 
 // ---- the edge in its place
 
-// The three new rows, from row `at` on: u is the smallest number of the face, v and w follow it in a's row.
-pub fn put_three(rows: &mut [u8], at: usize, found: Sharing, u: u8)
+// The three new rows, of a region, from row `at` on: u is the smallest number of the face, v and w follow it in a's row.
+pub fn put_three(rows: &mut [u8], at: usize, found: Sharing, region: u8, u: u8)
     requires { ⌜ rowSize * (at + 3) ≤ length (now rows) ⌝ }
     requires { ⌜ LinkedRow (found .a) u (found .row) ⌝ }
     ensures { λ _. ⌜ now (rows .exit) ≡ withRows (now (rows .entry)) at
-        (threeOf found u (link (found .a) u (found .row) .0) (link (found .a) u (found .row) .1)) ⌝ }
+        (threeOf found region u (link (found .a) u (found .row) .0) (link (found .a) u (found .row) .1)) ⌝ }
 {
     let a = found.a;
     let b = found.b;
@@ -185,7 +187,7 @@ pub fn put_three(rows: &mut [u8], at: usize, found: Sharing, u: u8)
             q: b,
             r: u,
             s: after.v,
-            region: found.region,
+            region,
         },
     );
     rows::put_row(
@@ -196,7 +198,7 @@ pub fn put_three(rows: &mut [u8], at: usize, found: Sharing, u: u8)
             q: b,
             r: after.v,
             s: after.w,
-            region: found.region,
+            region,
         },
     );
     rows::put_row(
@@ -207,7 +209,7 @@ pub fn put_three(rows: &mut [u8], at: usize, found: Sharing, u: u8)
             q: b,
             r: after.w,
             s: u,
-            region: found.region,
+            region,
         },
     );
 }

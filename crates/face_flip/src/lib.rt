@@ -16,6 +16,7 @@ use layout::BODY_BYTES;
 use layout::MAX_ROWS;
 use layout::ROWS_AT;
 use layout::TABLE_BYTES;
+use rows::Regions;
 
 // The flip of a face with right numbers: writes the block afterwards, or refuses and leaves every output byte.
 fn flip_right(block: &[u8], x: u8, y: u8, z: u8, out: &mut [u8]) -> Answer
@@ -34,12 +35,16 @@ fn flip_right(block: &[u8], x: u8, y: u8, z: u8, out: &mut [u8]) -> Answer
     if found.a == found.b {
         return Answer::Refused(answers::ONE_APEX);
     }
+    let regions = found.regions;
+    let Regions::One(region) = regions else {
+        return Answer::Refused(answers::TWO_REGIONS);
+    };
     let mut rows = [0u8; TABLE_BYTES];
     let kept = output::keep_others(&block[ROWS_AT..BODY_BYTES], n, x, y, z, &mut rows);
     if MAX_ROWS < kept + 3 {
         return Answer::Refused(answers::NO_ROOM);
     }
-    put_three(&mut rows, kept, found, least(x, y, z));
+    put_three(&mut rows, kept, found, region, least(x, y, z));
     if !keys::keeps_mesh_rule(&rows, kept + 3, block[1] as usize) {
         return Answer::Refused(answers::BLOCKED);
     }

@@ -7,7 +7,10 @@ use lib.Dec.{T, eqb}
 use lib.ListN.{length, getD, take}
 use Rattle.lists.specs.Lists.{those, numbersFrom}
 use Rattle.rows.specs.declared.Row.{Row}
+use Rattle.rows.specs.declared.Regions.{Regions}
+use Rattle.rows.specs.declared.Regions.the-variants.{One}
 use Rattle.rows.specs.Rows.{rowSize, rowIn, rowsIn, holdsEdge}
+use Rattle.rows.specs.Steps.{withRegion}
 use Rattle.mesh.specs.Mesh.{numbersFit, keepsMeshRule}
 use Rattle.layout.specs.Layout.{maxRows}
 use Rattle.links.specs.declared.Links.{Links}
@@ -51,3 +54,7 @@ pub record Around (table : List ℕ) (a b : ℕ) (links : Links) : Type 0 where
   pub few : links .n ≤ maxRows
   pub linked : linksIn links ≡ linksOf a b (rowsIn table rows)
   pub placed : placesIn links ≡ placesOf a b table rows
+
+-- the regions of n rows, with one row more
+abbrev pub joinedWith : ℕ → Regions → ℕ → Regions
+joinedWith n regions region = cond (eqb n 0) (One region) (withRegion regions region)

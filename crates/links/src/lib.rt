@@ -1,12 +1,15 @@
-// The links round an edge.
+// The links round an edge, and the regions of its rows.
 ghost use mathlib.Core.Path.{_≡_};
 ghost use mathlib.Core.List.{[], _∷_, _++_};
 ghost use Prim.Native.Nat.{_+_, _<_, _≤_};
-ghost use Rattle.rows.specs.Rows.{rowsIn};
+ghost use Rattle.lists.specs.Lists.{those};
+ghost use Rattle.rows.specs.Rows.{rowsIn, holdsEdge};
+ghost use Rattle.rows.specs.Steps.{regionsOf};
 ghost use Rattle.layout.specs.Layout.{maxRows};
 ghost use Rattle.links.specs.Links.{link, linksOf};
-ghost use Rattle.links.specs.Steps.{placesOf, following, linksIn, placesIn, LinkedRow, Table};
+ghost use Rattle.links.specs.Steps.{placesOf, following, linksIn, placesIn, joinedWith, LinkedRow, Table};
 use layout::MAX_ROWS;
+use rows::Regions;
 use rows::Row;
 
 // A link v to w.
@@ -21,6 +24,12 @@ pub struct Links {
     pub places: [u8; MAX_ROWS],
     pub starts: [u8; MAX_ROWS],
     pub ends: [u8; MAX_ROWS],
+}
+
+// The rows round an edge: their links, and their regions.
+pub struct Round {
+    pub links: Links,
+    pub regions: Regions,
 }
 
 // What follows b in the face x, y, z, turned round to begin with b.
@@ -68,11 +77,22 @@ fn added(links: Links, place: u8, l: Link) -> Links
     next
 }
 
+// The regions of n rows, with one row more.
+fn joined(n: usize, regions: Regions, region: u8) -> Regions
+    ensures { λ r. ⌜ r ≡ joinedWith n regions region ⌝ }
+{
+    if n == 0 {
+        return Regions::One(region);
+    }
+    regions.with(region)
+}
+
 // The rows round the edge, of the first n.
-pub fn gather(table: &[u8], n: usize, a: u8, b: u8) -> Links
+pub fn gather(table: &[u8], n: usize, a: u8, b: u8) -> Round
     requires { ⌜ Table (now table) n a b ⌝ }
-    ensures { λ r. ⌜ (r .n ≤ maxRows) × (linksIn r ≡ linksOf a b (rowsIn (now (table .entry)) n))
-        × (placesIn r ≡ placesOf a b (now (table .entry)) n) ⌝ }
+    ensures { λ r. ⌜ (r .links .n ≤ maxRows) × (linksIn (r .links) ≡ linksOf a b (rowsIn (now (table .entry)) n))
+        × (placesIn (r .links) ≡ placesOf a b (now (table .entry)) n)
+        × (r .regions ≡ regionsOf (those (holdsEdge a b) (rowsIn (now (table .entry)) n))) ⌝ }
 {
     let mut links = Links {
         n: 0,
@@ -80,11 +100,13 @@ pub fn gather(table: &[u8], n: usize, a: u8, b: u8) -> Links
         starts: [0; MAX_ROWS],
         ends: [0; MAX_ROWS],
     };
+    let mut regions = Regions::One(0);
     for i in 0..n {
         let row = rows::row_in(table, i);
         if rows::holds_edge(row, a, b) {
+            regions = joined(links.n, regions, row.region);
             links = added(links, i as u8, link_of(row, a, b));
         }
     }
-    links
+    Round { links, regions }
 }

@@ -1,8 +1,8 @@
 -- The rows afterwards of an edge that can be replaced: they are few enough, they can be measured, and they are the patch afterwards.
-use Prim.Native.Nat.{ℕ, _≤_, min, max}
+use Prim.Native.Nat.{ℕ, _≤_}
 use mathlib.Core.Bool.{Bool}
 use mathlib.Core.List.{List}
-use mathlib.Core.Path.{_≡_, sym, ap, ap₂, _∙_, subst}
+use mathlib.Core.Path.{_≡_, ap, ap₂, _∙_, subst}
 use native.Mathlib.Omega.{arith}
 use lib.Dec.{T}
 use lib.ListN.{length, replicate}
@@ -21,7 +21,7 @@ use Rattle.tally.specs.Tally.{patchIn, worstOfPatch}
 use Rattle.ring.specs.declared.Ring.{Ring}
 use Rattle.ring.specs.Ring.{Site, siteOf}
 use Rattle.ring.proofs.RingInAnyOrder.{site-ordered}
-use Rattle.triangulation.specs.Triangulation.{tableAfter, rowsAfter}
+use Rattle.triangulation.specs.Triangulation.{tableAfter}
 use Rattle.triangulation.specs.Best.{chosen}
 use Rattle.cells.specs.Steps.{cells}
 use Rattle.output.specs.Steps.{tableBytes, tableWith}
@@ -29,10 +29,10 @@ use Rattle.output.proofs.RowsThenZeros.{table-size, table-read}
 use Rattle.calls.specs.Removing.{patchAfter}
 use Rattle.calls.proofs.BestDecides.{chosen-keeps, chosen-rows}
 use Rattle.replacement.specs.Steps.{Carriable, edgeSite, Replaceable}
-use Rattle.outcome.specs.declared.After.{After}
-use Rattle.outcome.specs.Steps.{rowsAfterwards, pageAfterwards, Replaces}
+use Rattle.outcome.specs.Steps.{rowsAfterwards, Replaces}
 
-module _ (block : List ℕ) (e f : ℕ) {closed : Bool} {ring : Ring} {apexes : List ℕ} (given : Replaceable block e f closed ring apexes) where
+module _ (block : List ℕ) (e f : ℕ) {closed : Bool} {ring : Ring} {region : ℕ} {apexes : List ℕ}
+    (given : Replaceable block e f closed ring region apexes) where
   abbrev its : Site
   its = edgeSite block e f
 
@@ -52,8 +52,9 @@ module _ (block : List ℕ) (e f : ℕ) {closed : Bool} {ring : Ring} {apexes : 
   pub few-afterwards : length (rowsAfterwards block e f) ≤ maxRows
   few-afterwards = subst (λ (rows : List Row). length rows ≤ maxRows) own-rows few
 
-  pub carriable : {rows : List ℕ} → length apexes ≡ cells → rows ≡ replicate tableBytes 0 → Carriable its apexes rows
-  carriable whole empty = record { room = given .room; whole = whole; stand = given .stand; empty = empty }
+  pub carriable : {rows : List ℕ} → length apexes ≡ cells → rows ≡ replicate tableBytes 0 → Carriable its region apexes rows
+  carriable whole empty =
+      record { room = given .room; own-region = given .own-region; whole = whole; stand = given .stand; empty = empty }
 
   module _ (n : ℕ) (n-is : n ≡ length after) (rows : List ℕ) (rows-is : rows ≡ tableWith after) where
     read : rowsIn rows n ≡ after

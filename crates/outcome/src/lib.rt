@@ -30,10 +30,11 @@ pub fn replace(
     f: usize,
     closed: bool,
     ring: Ring,
+    region: u8,
     apexes: &[u8; CELLS],
     rows: &mut [u8],
 ) -> After
-    requires { ⌜ (openAnswer (now block) ≡ 0) × Replaceable (now block) e f closed ring (now apexes) ⌝ }
+    requires { ⌜ (openAnswer (now block) ≡ 0) × Replaceable (now block) e f closed ring region (now apexes) ⌝ }
     requires { ⌜ (length (now apexes) ≡ cells) × (now rows ≡ replicate tableBytes 0) ⌝ }
     ensures { λ r. ⌜ Replaces (now (block .entry)) e f (now (rows .exit)) r ⌝ }
 {
@@ -52,6 +53,7 @@ pub fn replace(
         b,
         closed,
         ring,
+        region,
         apexes,
         rows,
     );

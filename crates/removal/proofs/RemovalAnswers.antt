@@ -89,7 +89,7 @@ module _ (block out : List ℕ) (e f : ℕ) where
       pub done-answer : removeAnswer block out e f ≡ 0
       done-answer = same-answer ∙ zero-answer
 
-      pub replaceable : Replaceable block e f (tried .closed) (tried .ring) (tried .apexes)
+      pub replaceable : Replaceable block e f (tried .closed) (tried .ring) (tried .region) (tried .apexes)
       replaceable = attempts .done zero-answer
 
       own-ring : tried .ring ≡ ringWith (site .ring)

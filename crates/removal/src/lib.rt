@@ -48,6 +48,7 @@ pub fn remove(block: &[u8], e: usize, f: usize, out: &mut [u8]) -> Removed
         f,
         tried.closed,
         ring,
+        tried.region,
         &apexes,
         &mut out[ROWS_AT..BODY_BYTES],
     );
@@ -75,7 +76,16 @@ pub fn page(block: &[u8], e: usize, f: usize) -> Removal
         return Removal::Refused(number);
     }
     let mut rows = [0u8; TABLE_BYTES];
-    let after = replace(block, e, f, tried.closed, ring, &apexes, &mut rows);
+    let after = replace(
+        block,
+        e,
+        f,
+        tried.closed,
+        ring,
+        tried.region,
+        &apexes,
+        &mut rows,
+    );
     let page = after.page;
     Removal::Done(page)
 }

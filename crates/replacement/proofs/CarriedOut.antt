@@ -1,19 +1,14 @@
--- The rows that stay, with the new rows of the chosen triangulation behind them, are the table afterwards; and the region of the new rows.
+-- The rows that stay, with the new rows of the chosen triangulation behind them, are the table afterwards.
 use Prim.Native.Nat.{ℕ, zero, suc, _+_, _-_, _*_, _≤_, _<_, min, max}
-use mathlib.Core.Bool.{Bool, true, false}
-use mathlib.Core.List.{List, [], _∷_, _++_, flatMap}
+use mathlib.Core.Bool.{Bool}
+use mathlib.Core.List.{List, _++_, flatMap}
 use mathlib.Core.Path.{_≡_, sym, ap, _∙_}
-use native.Mathlib.Numerals.{add-one}
 use native.Mathlib.Omega.{arith}
-use lib.ListN.{length, getD, drop, replicate, length-append, length-replicate, drop-of-length-le, List·getD-append}
-use lib.Seq.{drop-cons}
-use Rattle.lists.specs.Lists.{those}
-use Rattle.rows.specs.declared.Row.{Row}
-use Rattle.rows.specs.Rows.{rowSize, rowIn, rowsIn, rowBytes, noRow, holdsEdge, withRows}
-use Rattle.rows.proofs.RowsOfTables.{rows-length, rows-at}
+use lib.ListN.{length, getD, drop, replicate, length-append, length-replicate, List·getD-append}
+use Rattle.rows.specs.Rows.{rowSize, rowsIn, rowBytes, withRows}
 use Rattle.ring.specs.declared.Ring.{Ring}
 use Rattle.ring.specs.Ring.{Site, siteOf, m, maxRing}
-use Rattle.triangulation.specs.Triangulation.{span, v, newRows, tableAfter, regionOf}
+use Rattle.triangulation.specs.Triangulation.{span, v, newRows, tableAfter}
 use Rattle.triangulation.specs.Best.{chosen}
 use Rattle.triangulation.specs.Steps.{siteIn}
 use Rattle.cells.specs.Steps.{cells}
@@ -25,45 +20,9 @@ use Rattle.output.proofs.RowsThenZeros.{table-size, table-front, table-append}
 use Rattle.edge.specs.Steps.{Ringed}
 use Rattle.replacement.specs.Steps.{Carriable}
 
--- ---- the region of the first row that holds the edge
-
-module _ (table : List ℕ) (n a b : ℕ) where
-  abbrev all : List Row
-  all = rowsIn table n
-
-  -- the rows from i on hold the same that the whole table does
-  abbrev pub Left : ℕ → Type 0
-  Left i = those (holdsEdge a b) (drop i all) ≡ those (holdsEdge a b) all
-
-  module _ (i : ℕ) (h : i < n) (left : Left i) (row : Row) (row-is : row ≡ rowIn table i) where
-    at-row : drop i all ≡ row ∷ drop (suc i) all
-    at-row =
-        drop-cons all i noRow (omega (arith, rows-length table n))
-        ∙ ap (λ r. r ∷ drop (suc i) all) (rows-at table n i noRow h ∙ sym row-is)
-
-    pub region-here : holdsEdge a b row ≡ true → row .region ≡ regionOf (those (holdsEdge a b) all)
-    unfolding those
-    region-here e =
-        let first : those (holdsEdge a b) (row ∷ drop (suc i) all) ≡ row ∷ those (holdsEdge a b) (drop (suc i) all) = rw e in
-        ap regionOf (sym first ∙ ap (those (holdsEdge a b)) (sym at-row) ∙ left)
-
-    pub region-later : holdsEdge a b row ≡ false → Left (i + 1)
-    unfolding those
-    region-later e =
-        let first : those (holdsEdge a b) (row ∷ drop (suc i) all) ≡ those (holdsEdge a b) (drop (suc i) all) = rw e in
-        rw add-one (sym first ∙ ap (those (holdsEdge a b)) (sym at-row) ∙ left)
-
-  pub region-none : (i : ℕ) → n ≤ i → Left i → 0 ≡ regionOf (those (holdsEdge a b) all)
-  unfolding those
-  region-none i h left =
-      let none : drop i all ≡ [] = drop-of-length-le all {i = i} (omega (arith, rows-length table n)) in
-      ap regionOf (ap (those (holdsEdge a b)) (sym none) ∙ left)
-
--- ---- the rows afterwards
-
 module _ (coordinates : List ℕ) (count : ℕ) (table : List ℕ) (n a b : ℕ) {closed : Bool} {ring : Ring}
-    (given : Ringed coordinates count table n a b closed ring) {apexes rows : List ℕ}
-    (carriable : Carriable (siteIn coordinates count table n a b) apexes rows) where
+    (given : Ringed coordinates count table n a b closed ring) {region : ℕ} {apexes rows : List ℕ}
+    (carriable : Carriable (siteIn coordinates count table n a b) region apexes rows) where
   abbrev its : Site
   its = siteIn coordinates count table n a b
 
@@ -108,30 +67,29 @@ module _ (coordinates : List ℕ) (count : ℕ) (table : List ℕ) (n a b : ℕ)
     pub expand-room : rowSize * (kept + 2 * (ring .m - 1 - 1)) ≤ length front
     expand-room = omega (arith, front-size, kept-own, size-is, given .ready .long, carriable .room)
 
-    module _ (region : ℕ) (region-is : region ≡ regionOf (those (holdsEdge a b) (rowsIn table n))) where
-      point : (l : ℕ) → 1 ≤ l → l ≤ m its → getD (ring .v) (l - 1) 0 ≡ v its l
-      point zero s h = absurd (omega arith)
-      point (suc l) s h =
-          let back : suc l - 1 ≡ l = omega arith in
-          ap (λ k. getD (ring .v) k 0) back
-          ∙ ap (λ (r : Ring). getD (r .v) l 0) (given .ready .found)
-          ∙ List·getD-append (its .ring) (replicate (maxRing - m its) 0) 0 l (omega arith)
+    point : (l : ℕ) → 1 ≤ l → l ≤ m its → getD (ring .v) (l - 1) 0 ≡ v its l
+    point zero s h = absurd (omega arith)
+    point (suc l) s h =
+        let back : suc l - 1 ≡ l = omega arith in
+        ap (λ k. getD (ring .v) k 0) back
+        ∙ ap (λ (r : Ring). getD (r .v) l 0) (given .ready .found)
+        ∙ List·getD-append (its .ring) (replicate (maxRing - m its) 0) 0 l (omega arith)
 
-      site-rows : SiteRows its (record { a = a; b = b; v = ring .v }) region 1 (ring .m)
-      unfolding siteOf
-      site-rows = rw size-is (record { a = sym least; b = sym most; v = point; own-region = rw (least, most) region-is })
+    site-rows : SiteRows its (record { a = a; b = b; v = ring .v }) region 1 (ring .m)
+    unfolding siteOf
+    site-rows = rw size-is (record { a = sym least; b = sym most; v = point; own-region = carriable .own-region })
 
-      pub carried-out : (whole : List ℕ) (end : ℕ)
-          → ((site : Site) → SiteRows site (record { a = a; b = b; v = ring .v }) region 1 (ring .m)
-          → span (treeIn apexes 1 (ring .m)) ≡ ring .m - 1
-          → (whole ≡ withRows front kept (newRows site 1 (treeIn apexes 1 (ring .m))))
-          × (end ≡ kept + length (newRows site 1 (treeIn apexes 1 (ring .m)))))
-          → (end ≡ length (tableAfter its (chosen its))) × (whole ≡ tableWith (tableAfter its (chosen its)))
-      unfolding tableAfter
-      carried-out whole end f =
-          let tree : treeIn apexes 1 (ring .m) ≡ chosen its = rw size-is (carriable .stand .tree) in
-          let (w, n) = f its site-rows (ap span tree ∙ carriable .stand .spans ∙ sym (ap (λ k. k - 1) size-is)) in
-          let rows = newRows its 1 (chosen its) in (
-            rw tree at n ∙ rw kept-own (sym (length-append (its .kept) rows)),
-            rw (tree, front-own, kept-own) at w ∙ table-append (its .kept) rows,
-          )
+    pub carried-out : (whole : List ℕ) (end : ℕ)
+        → ((site : Site) → SiteRows site (record { a = a; b = b; v = ring .v }) region 1 (ring .m)
+        → span (treeIn apexes 1 (ring .m)) ≡ ring .m - 1
+        → (whole ≡ withRows front kept (newRows site 1 (treeIn apexes 1 (ring .m))))
+        × (end ≡ kept + length (newRows site 1 (treeIn apexes 1 (ring .m)))))
+        → (end ≡ length (tableAfter its (chosen its))) × (whole ≡ tableWith (tableAfter its (chosen its)))
+    unfolding tableAfter
+    carried-out whole end f =
+        let tree : treeIn apexes 1 (ring .m) ≡ chosen its = rw size-is (carriable .stand .tree) in
+        let (w, n) = f its site-rows (ap span tree ∙ carriable .stand .spans ∙ sym (ap (λ k. k - 1) size-is)) in
+        let rows = newRows its 1 (chosen its) in (
+          rw tree at n ∙ rw kept-own (sym (length-append (its .kept) rows)),
+          rw (tree, front-own, kept-own) at w ∙ table-append (its .kept) rows,
+        )

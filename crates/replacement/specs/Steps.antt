@@ -7,6 +7,7 @@ use mathlib.Core.Option.{some}
 use lib.Dec.{T}
 use lib.ListN.{length, replicate}
 use Rattle.quality.specs.declared.Quality.{Quality}
+use Rattle.rows.specs.Regions.{regionOf}
 use Rattle.layout.specs.Layout.{maxRows, pointCount, rowCount, coordinatesOf, tableOf}
 use Rattle.ring.specs.declared.Ring.{Ring}
 use Rattle.ring.specs.Ring.{Site, m}
@@ -32,9 +33,11 @@ pub record BestWay (site : Site) (way : Way) : Type 0 where
   pub fraction : (q : Quality) → bestOf (way .best) ≡ some q → 0 < q .den
   pub apexes : (q : Quality) → bestOf (way .best) ≡ some q → StandFor site (way .apexes)
 
--- There is room for the chosen triangulation, the apexes stand for it, and the table it is carried out in is empty.
-pub record Carriable (site : Site) (apexes rows : List ℕ) : Type 0 where
+-- There is room for the chosen triangulation, the region is that of the rows that go, the apexes stand for it, and the table it is carried
+-- out in is empty.
+pub record Carriable (site : Site) (region : ℕ) (apexes rows : List ℕ) : Type 0 where
   pub room : rowsAfter site ≤ maxRows
+  pub own-region : region ≡ regionOf (site .removed)
   pub whole : length apexes ≡ cells
   pub stand : StandFor site apexes
   pub empty : rows ≡ replicate tableBytes 0
@@ -45,10 +48,11 @@ pub record Carriable (site : Site) (apexes rows : List ℕ) : Type 0 where
 abbrev pub edgeSite : List ℕ → ℕ → ℕ → Site
 edgeSite block e f = siteIn (coordinatesOf block) (pointCount block) (tableOf block) (rowCount block) (min e f) (max e f)
 
--- The edge has its ring or chain, with room and an admissible triangulation, and the apexes stand for the chosen one.
-pub record Replaceable (block : List ℕ) (e f : ℕ) (closed : Bool) (ring : Ring) (apexes : List ℕ) : Type 0 where
+-- The edge has its ring or chain, whose region is given, with room and an admissible triangulation, and the apexes stand for the chosen one.
+pub record Replaceable (block : List ℕ) (e f : ℕ) (closed : Bool) (ring : Ring) (region : ℕ) (apexes : List ℕ) : Type 0 where
   pub ends : (e < 256) × (f < 256)
   pub ringed : Ringed (coordinatesOf block) (pointCount block) (tableOf block) (rowCount block) (min e f) (max e f) closed ring
   pub way : noWay (edgeSite block e f) ≡ false
+  pub own-region : region ≡ regionOf (edgeSite block e f .removed)
   pub room : rowsAfter (edgeSite block e f) ≤ maxRows
   pub stand : StandFor (edgeSite block e f) apexes

@@ -1,10 +1,7 @@
 // The best triangulation of a ring or a chain: its worst and its apexes; and carried out, in the place of the rows afterwards.
-ghost use Prim.Native.Nat.{_*_, _≤_};
 ghost use mathlib.Core.Path.{_≡_};
 ghost use lib.ListN.{length};
-ghost use Rattle.lists.specs.Lists.{those};
-ghost use Rattle.rows.specs.Rows.{rowSize, rowsIn, holdsEdge};
-ghost use Rattle.triangulation.specs.Triangulation.{regionOf, tableAfter};
+ghost use Rattle.triangulation.specs.Triangulation.{tableAfter};
 ghost use Rattle.triangulation.specs.Best.{chosen};
 ghost use Rattle.triangulation.specs.Steps.{siteIn};
 ghost use Rattle.output.specs.Steps.{tableWith};
@@ -42,22 +39,8 @@ pub fn best_way(
     Way { best, apexes }
 }
 
-// The region of the first row that holds the edge.
-fn region_of(table: &[u8], n: usize, a: u8, b: u8) -> u8
-    requires { ⌜ rowSize * n ≤ length (now table) ⌝ }
-    ensures { λ r. ⌜ r ≡ regionOf (those (holdsEdge a b) (rowsIn (now (table .entry)) n)) ⌝ }
-{
-    for i in 0..n {
-        let row = rows::row_in(table, i);
-        if rows::holds_edge(row, a, b) {
-            return row.region;
-        }
-    }
-    0
-}
-
-// The chosen triangulation, carried out in an empty table: the kept rows, then the new ones; their number is returned. `coordinates`,
-// `count` and `closed` are for the contract alone: they say which ring or chain it is.
+// The chosen triangulation, carried out in an empty table: the kept rows, then the new ones, with the region of those that go; their number
+// is returned. `coordinates`, `count` and `closed` are for the contract alone: they say which ring or chain it is.
 pub fn carry_out(
     coordinates: &[u8],
     count: usize,
@@ -67,18 +50,18 @@ pub fn carry_out(
     b: u8,
     closed: bool,
     ring: Ring,
+    region: u8,
     apexes: &[u8; CELLS],
     rows: &mut [u8],
 ) -> usize
     requires { ⌜ Ringed (now coordinates) count (now table) n a b closed ring ⌝ }
-    requires { ⌜ Carriable (siteIn (now coordinates) count (now table) n a b) (now apexes) (now rows) ⌝ }
+    requires { ⌜ Carriable (siteIn (now coordinates) count (now table) n a b) region (now apexes) (now rows) ⌝ }
     ensures { λ r. ⌜ (r ≡ length (tableAfter (siteIn (now (coordinates .entry)) count (now (table .entry)) n a b)
         (chosen (siteIn (now (coordinates .entry)) count (now (table .entry)) n a b))))
         × (now (rows .exit) ≡ tableWith (tableAfter (siteIn (now (coordinates .entry)) count (now (table .entry)) n a b)
         (chosen (siteIn (now (coordinates .entry)) count (now (table .entry)) n a b)))) ⌝ }
 {
     let kept = output::keep_others(table, n, a, b, b, rows);
-    let region = region_of(table, n, a, b);
     let v = ring.v;
     let m = ring.m as usize;
     expansion::expand(rows, kept, apexes, Rim { a, b, v }, region, 1, m)

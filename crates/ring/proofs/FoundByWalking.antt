@@ -10,12 +10,14 @@ use borrow.Author.Tests.{eq-eqb, ne-eqb}
 use lib.Dec.{T, not-T}
 use lib.ListN.{length, length-map}
 use lib.Seq.{length-take-le}
-use Rattle.lists.specs.Lists.{every, has, different}
+use Rattle.lists.specs.Lists.{every, those, has, different}
 use Rattle.lists.proofs.Tests.{yes-is, no-is}
 use Rattle.lists.proofs.Lists.{every-at, every-i}
 use Rattle.lists.proofs.Numbers.{has-i, has-e, no-more, no-fewer}
 use Rattle.lists.proofs.Options.{some-is, none-not}
-use Rattle.rows.specs.Rows.{rowsIn}
+use Rattle.rows.specs.declared.Regions.{Regions}
+use Rattle.rows.specs.Rows.{rowsIn, holdsEdge}
+use Rattle.rows.specs.Steps.{regionsOf}
 use Rattle.mesh.specs.Mesh.{keepsMeshRule}
 use Rattle.layout.specs.Layout.{Patch}
 use Rattle.answers.specs.Answers.{firstRefusal}
@@ -55,11 +57,11 @@ module _ (chains : Bool) (site : Site) where
       found-12 r = rw (held, taken, r)
 
       -- 13, or the ring or chain
-      found-sized : manyCircles site ≡ false → foundOf chains site ≡ sizedOf (site .closed) (site .ring)
+      found-sized : manyCircles site ≡ false → foundOf chains site ≡ sizedOf (site .closed) (site .ring) (regionsOf (site .removed))
       unfolding foundOf ringTests firstRefusal sizedOf
       found-sized r = go (lengthWrong site) refl
         where
-          go : (b : Bool) → lengthWrong site ≡ b → foundOf chains site ≡ sizedOf (site .closed) (site .ring)
+          go : (b : Bool) → lengthWrong site ≡ b → foundOf chains site ≡ sizedOf (site .closed) (site .ring) (regionsOf (site .removed))
           go true s = rw (held, taken, r, s)
           go false s = rw (held, taken, r, s)
 
@@ -146,7 +148,7 @@ module _ (site : Site) (law : Ruled site) where
           omega (arith, start-count, no-more (starts links) points (law .single) on)))))
 
       -- it has left no link out
-      found-ring : (chains : Bool) → length links ≤ length points → foundOf chains site ≡ sizedOf true points
+      found-ring : (chains : Bool) → length links ≤ length points → foundOf chains site ≡ sizedOf true points (regionsOf (site .removed))
       unfolding manyCircles whole
       found-ring chains l =
           let on-ring : T (whole site) = every-i (has (site .ring)) (starts links) (λ n m.
@@ -195,7 +197,7 @@ module _ (site : Site) (law : Ruled site) where
             found-11 orChains site held (rw (unclosed, broken))
 
         -- it has left no link out
-        found-chain : length links < length points → foundOf orChains site ≡ sizedOf false points
+        found-chain : length links < length points → foundOf orChains site ≡ sizedOf false points (regionsOf (site .removed))
         unfolding linkOpen manyCircles whole
         found-chain l =
             let covers = more-covers links (law .single) (law .single-end) at-head run l in
@@ -205,11 +207,13 @@ module _ (site : Site) (law : Ruled site) where
 
 -- ---- the same of a table, by the arrays that the code keeps
 
--- The links of a table in their arrays.
+-- The links of a table in their arrays, and the regions of the rows that give them.
 pub record Gathered (table : List ℕ) (n a b : ℕ) : Type 0 where
   pub pre : Table table n a b
   pub links : Links
   pub are : linksIn links ≡ linksOf a b (rowsIn table n)
+  pub regions : Regions
+  pub of-rows : regions ≡ regionsOf (those (holdsEdge a b) (rowsIn table n))
 
 -- Some links of a table, and the walk from their first point.
 pub record Gone (table : List ℕ) (n a b : ℕ) : Type 0 where
@@ -229,6 +233,13 @@ module _ {table : List ℕ} {n a b : ℕ} (g : Gathered table n a b) where
       let least : min a b ≡ a = omega (arith, g .pre .order) in
       let most : max a b ≡ b = omega (arith, g .pre .order) in
       rw (least, most) (g .are)
+
+  regions-are : g .regions ≡ regionsOf ((edgeIn (rowsIn table n) a b) .removed)
+  unfolding siteOf
+  regions-are =
+      let least : min a b ≡ a = omega (arith, g .pre .order) in
+      let most : max a b ≡ b = omega (arith, g .pre .order) in
+      rw (least, most) (g .of-rows)
 
   table-ruled : Ruled (edgeIn (rowsIn table n) a b)
   table-ruled = ruled (g .pre .count) (record { points = []; rows = rowsIn table n }) a b (λ i. omega (arith, g .pre .order)) (g .pre .rule)
@@ -268,9 +279,9 @@ module _ {table : List ℕ} {n a b : ℕ} (gone : Gone table n a b) where
         sym (found-many its law-of some-here (gone .v) starts-here _ goes chains (omega (arith, size, link-count (gone .gathered))))
 
     pub gives-ring : (chains : Bool) → gone .gathered .links .n ≤ gone .trail .m
-        → sizedOf (gone .trail .closed) (wentBy (gone .trail)) ≡ foundOf chains its
+        → sizedOf (gone .trail .closed) (wentBy (gone .trail)) (gone .gathered .regions) ≡ foundOf chains its
     gives-ring chains l =
-        rw closed
+        rw (closed, regions-are (gone .gathered))
         (sym (found-ring its law-of some-here (gone .v) starts-here _ goes chains (omega (arith, size, link-count (gone .gathered)))))
 
   -- it ended
@@ -290,7 +301,7 @@ module _ {table : List ℕ} {n a b : ℕ} (gone : Gone table n a b) where
         (omega (arith, size, link-count (gone .gathered)))))
 
     pub gives-chain : {chains : Bool} → chains ≡ true → gone .gathered .links .n < gone .trail .m
-        → sizedOf (gone .trail .closed) (wentBy (gone .trail)) ≡ foundOf chains its
+        → sizedOf (gone .trail .closed) (wentBy (gone .trail)) (gone .gathered .regions) ≡ foundOf chains its
     gives-chain c l =
-        rw (c, ended) (sym (found-chain its law-of some-here (gone .v) starts-here stops _ followed
+        rw (c, ended, regions-are (gone .gathered)) (sym (found-chain its law-of some-here (gone .v) starts-here stops _ followed
         (omega (arith, size, link-count (gone .gathered)))))

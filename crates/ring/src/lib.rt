@@ -8,6 +8,7 @@ ghost use Rattle.walk.specs.Steps.{wentBy};
 ghost use Rattle.ring.specs.Ring.{maxRing, ringWith};
 ghost use Rattle.ring.specs.Steps.{refusedWith, sizedOf, foundOf, edgeIn};
 use answers::Answer;
+use rows::Regions;
 use walk::MOST_POINTS;
 use walk::Trail;
 
@@ -30,11 +31,13 @@ impl Ring {
     };
 }
 
-// What finding gives: the answer and, if it is done, whether the links close, and the ring or the chain; with a refusal it has no points.
+// What finding gives: the answer and, if it is done, whether the links close, the ring or the chain, and the regions of its rows; with a
+// refusal it has no points and no rows.
 pub struct Found {
     pub answer: Answer,
     pub closed: bool,
     pub ring: Ring,
+    pub regions: Regions,
 }
 
 // The ring of the first m points.
@@ -60,13 +63,14 @@ fn refused(number: u8) -> Found
         answer: Answer::Refused(number),
         closed: false,
         ring: Ring::EMPTY,
+        regions: Regions::One(0),
     }
 }
 
-// The ring or the chain of the points that a walk went by, or 13.
-fn sized(trail: Trail) -> Found
+// The ring or the chain of the points that a walk went by, with the regions of its rows, or 13.
+fn sized(trail: Trail, regions: Regions) -> Found
     requires { ⌜ trail .m ≤ length (trail .v) ⌝ }
-    ensures { λ r. ⌜ r ≡ sizedOf (trail .closed) (wentBy trail) ⌝ }
+    ensures { λ r. ⌜ r ≡ sizedOf (trail .closed) (wentBy trail) regions ⌝ }
 {
     if trail.m < MIN_RING {
         return refused(answers::RING_LENGTH);
@@ -79,6 +83,7 @@ fn sized(trail: Trail) -> Found
         answer: Answer::Done,
         closed: trail.closed,
         ring: ring_of(v, trail.m),
+        regions,
     }
 }
 
@@ -87,7 +92,9 @@ pub fn find(table: &[u8], n: usize, a: u8, b: u8, chains: bool) -> Found
     requires { ⌜ Table (now table) n a b ⌝ }
     ensures { λ r. ⌜ r ≡ foundOf chains (edgeIn (rowsIn (now (table .entry)) n) a b) ⌝ }
 {
-    let links = links::gather(table, n, a, b);
+    let round = links::gather(table, n, a, b);
+    let links = round.links;
+    let regions = round.regions;
     if links.n == 0 {
         return refused(answers::NOT_HELD);
     }
@@ -96,7 +103,7 @@ pub fn find(table: &[u8], n: usize, a: u8, b: u8, chains: bool) -> Found
         if trail.m < links.n {
             return refused(answers::CIRCLES);
         }
-        return sized(trail);
+        return sized(trail, regions);
     }
     if !chains {
         return refused(answers::NOT_CLOSED);
@@ -104,5 +111,5 @@ pub fn find(table: &[u8], n: usize, a: u8, b: u8, chains: bool) -> Found
     if trail.m <= links.n {
         return refused(answers::NOT_CLOSED);
     }
-    sized(trail)
+    sized(trail, regions)
 }

@@ -1,5 +1,5 @@
 -- Two tables of the same tetrahedra, up to even rearrangement and row order: the rows that pass a test are again such tables, if even
--- rearrangement keeps the test; some row passes in both or in neither; and they are of one length.
+-- rearrangement keeps the test; some row passes in both or in neither; they are of one length, and their rows have the same regions.
 use mathlib.Core.Bool.{Bool, not}
 use mathlib.Core.List.{List, [], _∷_, _++_}
 use mathlib.Core.Logic.{_⊎_, inl, inr}
@@ -12,7 +12,10 @@ use Rattle.lists.proofs.Tests.{either, same-test}
 use Rattle.lists.proofs.Lists.{any-i, any-e, those-e}
 use Rattle.lists.proofs.Counts.{count-none, count-split}
 use Rattle.rows.specs.declared.Row.{Row}
+use Rattle.rows.specs.Regions.{regionOf, mixed}
 use Rattle.rows.specs.Tetrahedra.{rearranged, SameTetrahedra}
+use Rattle.rows.proofs.EvenMoves.{even-region}
+use Rattle.rows.proofs.RegionsOfRows.{Among, mixed-same, region-same}
 use Rattle.mesh.proofs.TablesAlike.{Alike, same-alike}
 use Rattle.links.proofs.SameLinks.{row-across}
 
@@ -70,3 +73,15 @@ alike-length (t ∷ ts) others (u, front, back, split, even, rest) =
 -- as many rows
 pub length-across : (rows others : List Row) → SameTetrahedra rows others → length rows ≡ length others
 length-across rows others same = alike-length rows others (same-alike rows others same)
+
+-- each row has the region of one of the other table's
+among-across : (rows others : List Row) → SameTetrahedra rows others → Among rows others
+among-across rows others same row k = let (u, i, even) = row-across rows others row same k in (u, i, even-region row u even)
+
+-- more than one region in both or in neither
+pub mixed-across : (rows others : List Row) → SameTetrahedra rows others → mixed rows ≡ mixed others
+mixed-across rows others same = mixed-same rows others (among-across rows others same) (among-across others rows (λ row. sym (same row)))
+
+-- the same region of all rows
+pub region-across : (rows others : List Row) → SameTetrahedra rows others → regionOf rows ≡ regionOf others
+region-across rows others same = region-same rows others (among-across rows others same) (among-across others rows (λ row. sym (same row)))

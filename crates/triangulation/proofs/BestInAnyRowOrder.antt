@@ -1,16 +1,17 @@
--- Two sites with the same points, ends and ring or chain, whose kept rows are the same tetrahedra: the same ways are admissible, with
--- the same worst, and the same one is chosen; so the new rows have the same numbers. Only the region may differ.
+-- Two sites with the same points, ends and ring or chain, whose kept rows are the same tetrahedra and whose removed rows have the same
+-- region: the same ways are admissible, with the same worst, and the same one is chosen; so the new rows are the same.
 use Prim.Native.Nat.{ℕ, zero, suc, _-_}
 use mathlib.Core.Bool.{Bool, not, _&&_}
-use mathlib.Core.List.{List, [], _∷_, map, flatMap}
+use mathlib.Core.List.{List, map, flatMap}
 use mathlib.Core.Option.{Option, none, some, Option·getD}
 use mathlib.Core.Path.{_≡_, refl, ap, _∙_, fun-ext}
 use Rattle.lists.specs.Lists.{any, those, first, numbersFrom}
+use Rattle.lists.proofs.Images.{flatMap-same}
 use Rattle.quality.specs.declared.Quality.{Quality}
 use Rattle.quality.specs.Quality.{worst, best, asGood, zeroQuality}
 use Rattle.rows.specs.declared.Row.{Row}
 use Rattle.mesh.specs.Mesh.{Face, uses, usesEitherWay, reversed}
-use Rattle.rows.specs.Rows.{numbers}
+use Rattle.rows.specs.Regions.{regionOf}
 use Rattle.rows.specs.RowMeasure.{rowQuality}
 use Rattle.rows.specs.Tetrahedra.{SameTetrahedra}
 use Rattle.mesh.proofs.EvenFaces.{even-uses}
@@ -21,7 +22,8 @@ use Rattle.triangulation.specs.Admissible.{keptUses, triangleFace, diago
 use Rattle.triangulation.specs.Best.{worstOfWay, pieceWays, bestWorst, hasApex, reaches, apex, chosenWithin, chosen}
 use Rattle.triangulation.proofs.AcrossTables.{any-across}
 
-module _ (site : Site) (removed kept : List Row) (links : List Link) (same : SameTetrahedra (site .kept) kept) where
+module _ (site : Site) (removed kept : List Row) (links : List Link) (same : SameTetrahedra (site .kept) kept)
+    (region : regionOf (site .removed) ≡ regionOf removed) where
   -- the site with other rows
   abbrev pub kin : Site
   kin =
@@ -73,22 +75,16 @@ module _ (site : Site) (removed kept : List Row) (links : List Link) (same : Sam
       faces : v site (m site) ≡ v kin (m site) → endFaces site ≡ endFaces kin
       faces e = rw e
 
-  -- ---- the new rows, but for the region
+  -- ---- the new rows
 
-  qualities-same : (ts : List Triangle)
-      → map (rowQuality (site .points)) (flatMap (twoRows site) ts) ≡ map (rowQuality (site .points)) (flatMap (twoRows kin) ts)
-  unfolding twoRows flatMap rowQuality
-  qualities-same [] = refl
-  qualities-same (t ∷ ts) = rw (v-same (t .0), v-same (t .1), v-same (t .2), qualities-same ts)
-
-  pub numbers-same : (ts : List Triangle) → map numbers (flatMap (twoRows site) ts) ≡ map numbers (flatMap (twoRows kin) ts)
-  unfolding twoRows flatMap
-  numbers-same [] = refl
-  numbers-same (t ∷ ts) = rw (v-same (t .0), v-same (t .1), v-same (t .2), numbers-same ts)
+  new-same : (i : ℕ) (t : Tri) → newRows site i t ≡ newRows kin i t
+  unfolding newRows twoRows
+  new-same i t =
+      flatMap-same (twoRows site) (twoRows kin) (triangles i t) (λ t k. rw (v-same (t .0), v-same (t .1), v-same (t .2), region))
 
   pub worst-same : (i : ℕ) (t : Tri) → worstOfWay site i t ≡ worstOfWay kin i t
-  unfolding worstOfWay newRows
-  worst-same i t = ap (λ qs. Option·getD (worst qs) zeroQuality) (qualities-same (triangles i t))
+  unfolding worstOfWay
+  worst-same i t = ap (λ rows. Option·getD (worst (map (rowQuality (site .points)) rows)) zeroQuality) (new-same i t)
 
   -- ---- the chosen way
 
@@ -128,10 +124,8 @@ module _ (site : Site) (removed kept : List Row) (links : List Link) (same : Sam
       go none below = refl
       go (some k) below = rw (below i k, below k j)
 
-  pub chosen-same : chosen site ≡ chosen kin
+  chosen-same : chosen site ≡ chosen kin
   chosen-same = within-same (m site - 1) 1 (m site)
 
-  -- the same four numbers in each new row
-  pub rows-same : map numbers (newRows site 1 (chosen site)) ≡ map numbers (newRows kin 1 (chosen kin))
-  unfolding newRows
-  rows-same = ap (λ t. map numbers (flatMap (twoRows site) (triangles 1 t))) chosen-same ∙ numbers-same (triangles 1 (chosen kin))
+  pub rows-same : newRows site 1 (chosen site) ≡ newRows kin 1 (chosen kin)
+  rows-same = ap (newRows site 1) chosen-same ∙ new-same 1 (chosen kin)

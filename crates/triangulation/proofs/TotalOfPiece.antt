@@ -6,22 +6,16 @@ use mathlib.Core.Path.{_≡_, refl, sym, ap, _∙_}
 use native.Mathlib.Nat.{add-assoc}
 use lib.IntN.{ℤ, pos, negℤ, _+ℤ_, +ℤ-idl, +ℤ-assoc, +ℤ-invr}
 use Rattle.lists.proofs.Images.{flatMap-append}
-use Rattle.lists.proofs.Sums.{sum-append}
 use Rattle.algebra.proofs.Normal.{var, con, _:+_, norm, same, _⊹_, ring-from}
 use Rattle.volume.specs.declared.Point.{Point}
 use Rattle.volume.specs.Volume.{D}
 use Rattle.volume.proofs.VolumeIdentities.{D-even, D-exchanged, pqsr, five-points}
 use Rattle.rows.specs.declared.Row.{Row}
 use Rattle.rows.specs.RowMeasure.{place, rowD, totalD}
+use Rattle.rows.proofs.EvenMeasure.{total-append}
 use Rattle.ring.specs.Ring.{Site}
-use Rattle.triangulation.specs.Triangulation.{Tri, side, cut, span, triangles, v, regionOf, twoRows, newRows}
-
--- the total of two tables together
-pub total-append :
-    (points : List Point) (rows others : List Row)
-    → totalD points (rows ++ others) ≡ totalD points rows +ℤ totalD points others
-unfolding totalD
-total-append points rows others = sum-append (rowD points) rows others
+use Rattle.rows.specs.Regions.{regionOf}
+use Rattle.triangulation.specs.Triangulation.{Tri, side, cut, span, triangles, v, twoRows, newRows}
 
 -- two rows, then the totals of two tables
 two-and : (points : List Point) (t u : Row) (rows others : List Row)

@@ -23,14 +23,14 @@ use Rattle.rows.specs.Rows.{holds, holdsEdge}
 use Rattle.rows.specs.RowMeasure.{place, rowD, totalD}
 use Rattle.rows.specs.Tetrahedra.{arrangedFrom}
 use Rattle.rows.proofs.EvenGroup.{arranged-from}
-use Rattle.rows.proofs.EvenMeasure.{even-D, total-split}
+use Rattle.rows.proofs.EvenMeasure.{even-D, total-split, total-append}
 use Rattle.ring.specs.Ring.{Site, m, flat, notFlat}
 use Rattle.links.specs.Links.{Link, link}
 use Rattle.ring.specs.SoundRing.{SoundRing}
 use Rattle.triangulation.specs.Triangulation.{Tri, side, cut, span, v, newRows, tableAfter}
 use Rattle.triangulation.proofs.AllWays.{span-over}
 use Rattle.triangulation.proofs.NewRowsProper.{next-link, last-link, all-differ}
-use Rattle.triangulation.proofs.TotalOfPiece.{total-append, turned-over, linkD, chainD, total-piece}
+use Rattle.triangulation.proofs.TotalOfPiece.{turned-over, linkD, chainD, total-piece}
 
 -- the whole number 0
 same-zero : (x : ℤ) → T (sameZ x (pos 0)) → x ≡ pos 0

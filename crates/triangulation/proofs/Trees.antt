@@ -7,11 +7,13 @@ use native.Mathlib.Omega.{arith}
 use Rattle.lists.specs.Lists.{any}
 use Rattle.lists.proofs.Tests.{and-l, and-r, and-i, same-test, not-or}
 use Rattle.lists.proofs.Lists.{any-append}
-use Rattle.lists.proofs.Images.{flatMap-append}
+use Rattle.lists.proofs.Images.{flatMap-append, flatMap-e}
 use Rattle.rows.specs.declared.Row.{Row}
 use Rattle.mesh.specs.Mesh.{Face}
 use Rattle.ring.specs.Ring.{Site}
-use Rattle.triangulation.specs.Triangulation.{Tri, side, cut, span, triangles, closingSides, diagonals, v, regionOf, twoRows, newRows}
+use Rattle.rows.specs.Regions.{regionOf}
+use Rattle.rows.proofs.RegionsOfRows.{AllIn, all-none, all-cons}
+use Rattle.triangulation.specs.Triangulation.{Tri, side, cut, span, Triangle, triangles, closingSides, diagonals, v, twoRows, newRows}
 use Rattle.triangulation.specs.Admissible.{keptUses, triangleFace, diagonalFaces, pieceAdmissible}
 
 -- ---- where a piece ends
@@ -50,6 +52,13 @@ aTop site i l r = aRow site i (endOf i l) (endOf (endOf i l) r)
 
 abbrev pub bTop : Site → ℕ → Tri → Tri → Row
 bTop site i l r = bRow site i (endOf i l) (endOf (endOf i l) r)
+
+-- they have the region of the removed rows
+pub rows-region : (site : Site) (ts : List Triangle) → AllIn (regionOf (site .removed)) (flatMap (twoRows site) ts)
+unfolding twoRows
+rows-region site ts row k =
+    let (t, i, own) = flatMap-e (twoRows site) ts k in
+    all-cons refl (all-cons refl (all-none (regionOf (site .removed)))) row own
 
 pub rows-side : (site : Site) (i : ℕ) → newRows site i side ≡ []
 unfolding newRows triangles flatMap

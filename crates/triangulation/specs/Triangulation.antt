@@ -6,7 +6,7 @@ use lib.Dec.{leb}
 use lib.ListN.{length, getD}
 use Rattle.lists.specs.Lists.{numbersFrom}
 use Rattle.rows.specs.declared.Row.{Row}
-use Rattle.rows.specs.Rows.{noRow}
+use Rattle.rows.specs.Regions.{regionOf}
 use Rattle.ring.specs.Ring.{Site, m}
 
 -- ---- triangulations
@@ -59,11 +59,7 @@ abbrev pub v : Site → ℕ → ℕ
 v site zero = 0
 v site (suc i) = getD (site .ring) i 0
 
--- new rows take the region of the first removed row in the table
-abbrev pub regionOf : List Row → ℕ
-regionOf removed = (getD removed 0 noRow) .region
-
--- each triangle gives two rows, (a,vi,vk,vj) and (vi,vk,vj,b)
+-- each triangle gives two rows, (a,vi,vk,vj) and (vi,vk,vj,b), with the region of all the removed rows
 unfoldable pub twoRows : Site → Triangle → List Row
 twoRows site t =
     let vi = v site (t .0) in

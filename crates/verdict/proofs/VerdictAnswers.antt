@@ -1,4 +1,4 @@
--- Answers 19 and 14 to 16 of a removal, one by one: what decides each, given what the tests above it found.
+-- Answers 19, 20 and 14 to 16 of a removal, one by one: what decides each, given what the tests above it found.
 use Prim.Native.Nat.{ℕ, suc, _+_, _-_, _*_, _≤_, _<_, min, max}
 use mathlib.Core.Bool.{Bool, true, false, cond, not, _||_}
 use mathlib.Core.List.{List, map}
@@ -15,9 +15,14 @@ use Rattle.quality.specs.declared.Quality.{Quality}
 use Rattle.volume.specs.Volume.{pointsIn, sameZ}
 use Rattle.quality.specs.Quality.{worse, worst, zeroQuality}
 use Rattle.rows.specs.Rows.{rowsIn, holdsEdge}
+use Rattle.rows.specs.Regions.{regionOf, mixed}
 use Rattle.rows.specs.Steps.{mostRows}
 use Rattle.rows.specs.RowMeasure.{rowD, rowQuality}
 use Rattle.rows.proofs.RowsOfTables.{rows-length}
+use Rattle.rows.specs.declared.Regions.{Regions}
+use Rattle.rows.specs.declared.Regions.the-variants.{One, Several}
+use Rattle.rows.specs.Steps.{regionsOf}
+use Rattle.rows.proofs.RegionsRowByRow.{told-several, told-one}
 use Rattle.answers.specs.declared.Answer.the-variants.{Done, Refused}
 use Rattle.layout.specs.Layout.{maxRows}
 use Rattle.answers.specs.Answers.{Tests, firstRefusal, answerOf}
@@ -133,28 +138,38 @@ module _ (coordinates : List ℕ) (count : ℕ) (table : List ℕ) (n a b : ℕ)
   unfolding planAnswer
   refusal k front h plan is =
       let e : planAnswer its ≡ suc k = stops (suc k) tests numbered front h in
-      record { answer = ap (λ (p : Plan). p .answer) is ∙ sym (ap answerOf e); apexes = λ z. absurd (omega (arith, e)) }
+      record { answer = ap (λ (p : Plan). p .answer) is ∙ sym (ap answerOf e); region = λ z. absurd (omega (arith, e)); apexes = λ z. absurd (omega (arith, e)) }
 
   pub gives-19 : notFlat its ≡ true → (plan : Plan) → plan ≡ noPlan (Refused 19) → Plans its plan
   unfolding firstRefusal before testOf
   gives-19 h = refusal 18 refl h
 
-  pub gives-14 : notFlat its ≡ false → (after : ℕ) → after + ring .m ≡ n + cond closed 0 1 + 2 * (ring .m - 2) → maxRows < after
+  -- ---- the region of the rows that go
+
+  module _ (regions : Regions) (regions-are : regions ≡ regionsOf (its .removed)) where
+    pub gives-20 : notFlat its ≡ false → regions ≡ Several → (plan : Plan) → plan ≡ noPlan (Refused 20) → Plans its plan
+    unfolding firstRefusal before testOf
+    gives-20 level e = refusal 19 (rw level) (told-several (its .removed) (sym regions-are ∙ e))
+
+    pub one-told : (g : ℕ) → regions ≡ One g → (mixed (its .removed) ≡ false) × (g ≡ regionOf (its .removed))
+    one-told g e = told-one (its .removed) (sym regions-are ∙ e)
+
+  pub gives-14 : notFlat its ≡ false → mixed (its .removed) ≡ false → (after : ℕ) → after + ring .m ≡ n + cond closed 0 1 + 2 * (ring .m - 2) → maxRows < after
       → (plan : Plan) → plan ≡ noPlan (Refused 14) → Plans its plan
   unfolding firstRefusal before testOf
-  gives-14 level after after-is h =
-      refusal 13 (rw level) (lt-ltb maxRows (rowsAfter its) (omega (arith, room-is after after-is)))
+  gives-14 level one after after-is h =
+      refusal 13 (rw (level, one)) (lt-ltb maxRows (rowsAfter its) (omega (arith, room-is after after-is)))
 
   pub has-room : (after : ℕ) → after + ring .m ≡ n + cond closed 0 1 + 2 * (ring .m - 2) → after ≤ maxRows → rowsAfter its ≤ maxRows
   has-room after after-is h = omega (arith, room-is after after-is)
 
-  module _ (level : notFlat its ≡ false) (room : rowsAfter its ≤ maxRows) (way : Way) (is-best : BestWay its way) where
+  module _ (level : notFlat its ≡ false) (one : mixed (its .removed) ≡ false) (room : rowsAfter its ≤ maxRows) (way : Way) (is-best : BestWay its way) where
     roomy : noRoom its ≡ false
     roomy = le-ltb maxRows (rowsAfter its) room
 
     pub gives-15 : way .best ≡ Mark → (plan : Plan) → plan ≡ noPlan (Refused 15) → Plans its plan
     unfolding firstRefusal before testOf
-    gives-15 e = refusal 14 (rw (level, roomy)) (marked its (given .sound) three way is-best e)
+    gives-15 e = refusal 14 (rw (level, one, roomy)) (marked its (given .sound) three way is-best e)
 
     module _ (q : Quality) (is : way .best ≡ Worst q) where
       some-way : noWay its ≡ false
@@ -177,13 +192,14 @@ module _ (coordinates : List ℕ) (count : ℕ) (table : List ℕ) (n a b : ℕ)
 
         pub gives-16 : worse now q ≡ false → (plan : Plan) → plan ≡ noPlan (Refused 16) → Plans its plan
         unfolding firstRefusal before testOf
-        gives-16 e = refusal 15 (rw (level, roomy, some-way)) (decides ∙ ap not e)
+        gives-16 e = refusal 15 (rw (level, one, roomy, some-way)) (decides ∙ ap not e)
 
-        pub gives-0 : worse now q ≡ true → Plans its (record { answer = Done; apexes = way .apexes })
+        pub gives-0 : worse now q ≡ true → (g : ℕ) → g ≡ regionOf (its .removed)
+            → Plans its (record { answer = Done; region = g; apexes = way .apexes })
         unfolding planAnswer firstRefusal
-        gives-0 e =
-            let z : planAnswer its ≡ 0 = rw (level, roomy, some-way, decides ∙ ap not e) in
-            record { answer = sym (ap answerOf z); apexes = λ _. is-best .apexes q (ap bestOf is) }
+        gives-0 e g region =
+            let z : planAnswer its ≡ 0 = rw (level, one, roomy, some-way, decides ∙ ap not e) in
+            record { answer = sym (ap answerOf z); region = λ _. region; apexes = λ _. is-best .apexes q (ap bestOf is) }
 
   -- ---- behind answer 0
 

@@ -1,5 +1,6 @@
-// Whether a ring or chain is replaced: answers 19 and 14 to 16.
+// Whether a ring or chain is replaced: answers 19, 20 and 14 to 16.
 ghost use mathlib.Core.Path.{_≡_};
+ghost use Rattle.rows.specs.Steps.{regionsOf};
 ghost use Rattle.triangulation.specs.Steps.{siteIn};
 ghost use Rattle.edge.specs.Steps.{Ringed};
 ghost use Rattle.verdict.specs.Steps.{Plans, noPlan};
@@ -11,19 +12,22 @@ use flatness::rows_after;
 use layout::MAX_ROWS;
 use replacement::best_way;
 use ring::Ring;
+use rows::Regions;
 
-// Answers 19 and 14 to 16 of a removal and, with answer 0, the apexes of the chosen triangulation.
+// Answers 19, 20 and 14 to 16 of a removal and, with answer 0, the region of the rows that go and the apexes of the chosen triangulation.
 pub struct Plan {
     pub answer: Answer,
+    pub region: u8,
     pub apexes: [u8; CELLS],
 }
 
-// A refusal stands beside no apexes.
+// A refusal stands beside no region and no apexes.
 fn no_plan(answer: Answer) -> Plan
     ensures { λ r. ⌜ r ≡ noPlan answer ⌝ }
 {
     Plan {
         answer,
+        region: 0,
         apexes: [0; CELLS],
     }
 }
@@ -38,13 +42,18 @@ pub fn decide(
     b: u8,
     closed: bool,
     ring: Ring,
+    regions: Regions,
 ) -> Plan
     requires { ⌜ Ringed (now coordinates) count (now table) n a b closed ring ⌝ }
+    requires { ⌜ regions ≡ regionsOf (siteIn (now coordinates) count (now table) n a b .removed) ⌝ }
     ensures { λ r. ⌜ Plans (siteIn (now (coordinates .entry)) count (now (table .entry)) n a b) r ⌝ }
 {
     if not_flat(coordinates, count, a, b, closed, ring) {
         return no_plan(Answer::Refused(answers::NOT_FLAT));
     }
+    let Regions::One(region) = regions else {
+        return no_plan(Answer::Refused(answers::TWO_REGIONS));
+    };
     let m = ring.m as usize;
     if MAX_ROWS < rows_after(closed, n, m) {
         return no_plan(Answer::Refused(answers::NO_ROOM));
@@ -61,6 +70,7 @@ pub fn decide(
     }
     Plan {
         answer: Answer::Done,
+        region,
         apexes,
     }
 }

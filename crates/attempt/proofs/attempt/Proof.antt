@@ -1,10 +1,11 @@
 -- Each way out is one case of the laws on a removal tried; with answers 9 to 13 behind it the edge has its ring.
 use Prim.Native.Nat.{ℕ, _<_}
 use mathlib.Core.List.{List}
-use mathlib.Core.Path.{_≡_, refl, subst, ap₂}
+use mathlib.Core.Path.{_≡_, refl, sym, ap, ap₂, _∙_, subst}
 use native.Mathlib.Omega.{arith}
 use borrow.Author.Needs.{needs}
 use lib.ListN.{length}
+use Rattle.rows.specs.Steps.{regionsOf}
 use Rattle.answers.specs.declared.Answer.the-variants.{Done}
 use Rattle.layout.specs.Layout.{blockBytes, pointCount, rowCount, coordinatesOf, tableOf}
 use Rattle.block.specs.Opening.{openAnswer}
@@ -13,7 +14,7 @@ use Rattle.ring.specs.declared.Found.{Found}
 use Rattle.ring.specs.Ring.{orChains, Site}
 use Rattle.triangulation.specs.Steps.{siteIn}
 use Rattle.edge.specs.Steps.{edgeFound}
-use Rattle.edge.proofs.EdgeRinged.{ends-bytes, ringed}
+use Rattle.edge.proofs.EdgeRinged.{ends-bytes, own-regions, own-site, ringed}
 use Rattle.verdict.specs.Steps.{Plans}
 use Rattle.attempt.proofs.Attempted.{edge-refuses, tried-is}
 use Rattle.attempt.proofs.attempt.Statement.{statement}
@@ -105,8 +106,13 @@ larger-requires c κs = ends (c .before .before .before .before .before)
 decide-requires : tie.Need-decide-requires
 decide-requires c κs =
     let k = c .before .before .before .before .before .before in
-    ringed orChains (blockOf k) (eOf k) (fOf k) (opens k) (foundAt k) (is-found k) (is-done k) _ _ (c .before .smaller .ensures)
-    (c .larger .ensures)
+    let p = c .before .smaller .ensures in
+    let q = c .larger .ensures in
+    let site = own-site orChains (blockOf k) (eOf k) (fOf k) (opens k) (foundAt k) (is-found k) (is-done k) _ _ p q in (
+      ringed orChains (blockOf k) (eOf k) (fOf k) (opens k) (foundAt k) (is-found k) (is-done k) _ _ p q,
+      own-regions orChains (blockOf k) (eOf k) (fOf k) (opens k) (foundAt k) (is-found k) (is-done k)
+          ∙ ap (λ (s : Site). regionsOf (s .removed)) (sym site),
+    )
 
 returns-2 : tie.Need-returns-2
 returns-2 c =

@@ -1,21 +1,23 @@
--- Each way out is one case of the laws on the 3-2 flip; with answers 9 to 13 behind it the edge has its ring.
+-- Each way out is one case of the laws on the 3-2 flip; with answers 9 to 13 behind it the edge has its ring, and with 20 its rows a region.
 use Prim.Native.Nat.{ℕ, _<_}
 use mathlib.Core.List.{List}
+use mathlib.Core.Bool.{false}
 use mathlib.Core.Path.{_≡_, refl}
 use native.Mathlib.Omega.{arith}
 use borrow.Author.Needs.{needs}
 use lib.ListN.{length}
+use Rattle.rows.specs.Regions.{regionOf, mixed}
 use Rattle.answers.specs.declared.Answer.the-variants.{Done}
-use Rattle.layout.specs.Layout.{blockBytes}
+use Rattle.layout.specs.Layout.{blockBytes, fieldsOf}
 use Rattle.block.specs.Opening.{openAnswer}
 use Rattle.tally.proofs.OpensMeasured.{block-size}
 use Rattle.ring.specs.declared.Found.{Found}
-use Rattle.ring.specs.Ring.{ringsAlone}
+use Rattle.ring.specs.Ring.{siteOf, ringsAlone}
 use Rattle.cells.specs.Steps.{cells}
 use Rattle.output.proofs.BlockFilledIn.{begun-empty}
 use Rattle.edge.specs.Steps.{edgeFound}
 use Rattle.edge.proofs.EdgeRinged.{ends-bytes, ringed}
-use Rattle.edge_flip.proofs.FlippedEdges.{edge-refuses, not-three, no-way, carriable, room-for, done-answer, done-bytes}
+use Rattle.edge_flip.proofs.FlippedEdges.{edge-refuses, not-three, several-regions, one-region, no-way, carriable, room-for, done-answer, done-bytes}
 use Rattle.edge_flip.proofs.flip_edge.Statement.{statement}
 use Rattle.edge_flip.proofs.flip_edge.Tie as tie
 
@@ -56,6 +58,27 @@ size k = block-size (blockOf k) (opens k)
 ends : (k : At-edge) → (eOf k < 256) × (fOf k < 256)
 ends k = ends-bytes ringsAlone (blockOf k) (eOf k) (fOf k) (opens k) (foundAt k) (is-found k) (is-done k)
 
+-- behind 20: a ring of three of one region
+abbrev At-region : Type 0
+At-region = tie.After-known-told
+
+abbrev threeAt : At-region → tie.Else1
+threeAt k = k .before .before .before
+
+abbrev edgeOf : At-region → At-edge
+edgeOf k = threeAt k .before .before
+
+one : (r : At-region) → let k = edgeOf r in
+    let site = siteOf (fieldsOf (blockOf k)) (eOf k) (fOf k) in
+    (mixed (site .removed) ≡ false) × (r .before .regions .given .0 .0 ≡ regionOf (site .removed))
+one r =
+    let k = edgeOf r in
+    one-region (blockOf k) (outOf k) (eOf k) (fOf k) (opens k) (room k) (foundAt k) (is-found k) (is-done k) _ (r .before .regions .given .1)
+
+-- behind the ends in order
+abbrev regionAt : tie.After-larger → At-region
+regionAt k = k .before .before .before .before .before .before
+
 -- the apexes are whole
 whole : (k : tie.After-best-way) → length (k .best-way .result .apexes) ≡ cells
 whole k = search needs
@@ -82,14 +105,27 @@ returns-2 c =
     let k = c .before .before in
     not-three (blockOf k) (outOf k) (eOf k) (fOf k) (opens k) (room k) (foundAt k) (is-found k) (is-done k) (c .if1 .taken)
 
+enum-known-regions : tie.Need-enum-known-regions
+enum-known-regions c = search needs
+
+enum-told-3 : tie.Need-enum-told-3
+enum-told-3 c = search needs
+
+returns-3 : tie.Need-returns-3
+returns-3 c =
+    let three = c .before .before in
+    let k = three .before .before in
+    several-regions (blockOf k) (outOf k) (eOf k) (fOf k) (opens k) (room k) (foundAt k) (is-found k) (is-done k) (three .if1 .left)
+    (c .enum-told3 .given .1)
+
 shared-slice-read-count : tie.Need-shared-slice-read-count
-shared-slice-read-count c = omega (arith, size (c .before .before .before))
+shared-slice-read-count c = omega (arith, size (edgeOf (c .before)))
 
 cast-count : tie.Need-cast-count
 cast-count c = omega (arith, c .shared-slice-known2 .given 1)
 
 shared-slice-read-n : tie.Need-shared-slice-read-n
-shared-slice-read-n c = omega (arith, size (c .before .before .before .before))
+shared-slice-read-n c = omega (arith, size (edgeOf (c .before .before)))
 
 cast-n : tie.Need-cast-n
 cast-n c = omega (arith, c .shared-slice-known3 .given 2)
@@ -101,7 +137,7 @@ part-coordinates-start : tie.Need-part-coordinates-start
 part-coordinates-start c = search needs
 
 part-coordinates-end : tie.Need-part-coordinates-end
-part-coordinates-end c = omega (arith, size (c .before .before .before .before))
+part-coordinates-end c = omega (arith, size (edgeOf (c .before .before)))
 
 sub-table : tie.Need-sub-table
 sub-table c = search needs
@@ -110,33 +146,34 @@ part-table-start : tie.Need-part-table-start
 part-table-start c = search needs
 
 part-table-end : tie.Need-part-table-end
-part-table-end c = omega (arith, size (c .before .before .before .before .before))
+part-table-end c = omega (arith, size (edgeOf (c .before .before .before)))
 
 smaller-requires : tie.Need-smaller-requires
-smaller-requires c κs = ends (c .before .before .before .before .before .before)
+smaller-requires c κs = ends (edgeOf (c .before .before .before .before))
 
 larger-requires : tie.Need-larger-requires
-larger-requires c κs = ends (c .before .before .before .before .before .before .before)
+larger-requires c κs = ends (edgeOf (c .before .before .before .before .before))
 
 best-way-requires : tie.Need-best-way-requires
 best-way-requires c κs =
-    let k = c .before .before .before .before .before .before .before .before in
+    let k = edgeOf (regionAt c) in
     ringed ringsAlone (blockOf k) (eOf k) (fOf k) (opens k) (foundAt k) (is-found k) (is-done k) _ _ (c .before .smaller .ensures)
     (c .larger .ensures)
-
-enum-told-3 : tie.Need-enum-told-3
-enum-told-3 c = search needs
 
 enum-told-4 : tie.Need-enum-told-4
 enum-told-4 c = search needs
 
-returns-3 : tie.Need-returns-3
-returns-3 c =
+enum-told-5 : tie.Need-enum-told-5
+enum-told-5 c = search needs
+
+returns-4 : tie.Need-returns-4
+returns-4 c =
     let best = c .before .before .before in
-    let three = best .before .before .before .before .before .before .before in
-    let k = three .before .before in
-    no-way (blockOf k) (outOf k) (eOf k) (fOf k) (opens k) (room k) (foundAt k) (is-found k) (is-done k) (three .if1 .left) _ _
-    (best .before .before .smaller .ensures) (best .before .larger .ensures) _ (best .best-way .ensures) (c .enum-told4 .given .1)
+    let larger = best .before in
+    let region = regionAt larger in
+    let k = edgeOf region in
+    no-way (blockOf k) (outOf k) (eOf k) (fOf k) (opens k) (room k) (foundAt k) (is-found k) (is-done k) (threeAt region .if1 .left) _ _
+    (larger .before .smaller .ensures) (larger .larger .ensures) (one region .0) _ (best .best-way .ensures) (c .enum-told5 .given .1)
 
 begin-requires : tie.Need-begin-requires
 begin-requires c κs = search needs
@@ -148,20 +185,26 @@ part-carry-out-start : tie.Need-part-carry-out-start
 part-carry-out-start c = search needs
 
 part-carry-out-end : tie.Need-part-carry-out-end
-part-carry-out-end c = search needs
+part-carry-out-end c =
+    let out = c .before .before in
+    let larger = out .before .before .before .before .before .before .before in
+    omega (arith, out .out .given, room (edgeOf (regionAt larger)))
 
 carry-out-requires : tie.Need-carry-out-requires
 carry-out-requires c κs =
     let begun = c .before .before .before .before in
     let worst = begun .before .before in
     let best = worst .before .before .before in
-    let three = best .before .before .before .before .before .before .before in
-    let k = three .before .before in
-    let p = best .before .before .smaller .ensures in
-    let q = best .before .larger .ensures in (
+    let larger = best .before in
+    let region = regionAt larger in
+    let k = edgeOf region in
+    let three = threeAt region .if1 .left in
+    let p = larger .before .smaller .ensures in
+    let q = larger .larger .ensures in
+    let (single, own) = one region in (
       ringed ringsAlone (blockOf k) (eOf k) (fOf k) (opens k) (foundAt k) (is-found k) (is-done k) _ _ p q,
-      carriable (blockOf k) (outOf k) (eOf k) (fOf k) (opens k) (room k) (foundAt k) (is-found k) (is-done k) (three .if1 .left) _ _ p q _
-          (best .best-way .ensures) _ (worst .enum-told3 .given .1) (whole best)
+      carriable (blockOf k) (outOf k) (eOf k) (fOf k) (opens k) (room k) (foundAt k) (is-found k) (is-done k) three _ _ p q single _
+          (best .best-way .ensures) _ (worst .enum-told4 .given .1) own (whole best)
           (begun-empty (blockOf k) (opens k) _ _ (begun .begin .ensures)),
     )
 
@@ -171,33 +214,39 @@ finish-requires c κs =
     let begun = carried .before .before .before .before .before in
     let worst = begun .before .before in
     let best = worst .before .before .before in
-    let three = best .before .before .before .before .before .before .before in
-    let k = three .before .before in
-    let p = best .before .before .smaller .ensures in
-    let q = best .before .larger .ensures in (
+    let larger = best .before in
+    let region = regionAt larger in
+    let k = edgeOf region in
+    let three = threeAt region .if1 .left in
+    let p = larger .before .smaller .ensures in
+    let q = larger .larger .ensures in
+    let (single, own) = one region in (
       omega (arith, c .before .before .out2 .given .1, c .before .before .before .before .before .before .before .out .given, room k),
-      room-for (blockOf k) (outOf k) (eOf k) (fOf k) (opens k) (room k) (foundAt k) (is-found k) (is-done k) (three .if1 .left) _ _ p q _
-          (best .best-way .ensures) _ (worst .enum-told3 .given .1) _ (carried .carry-out .ensures .0),
+      room-for (blockOf k) (outOf k) (eOf k) (fOf k) (opens k) (room k) (foundAt k) (is-found k) (is-done k) three _ _ p q single _
+          (best .best-way .ensures) _ (worst .enum-told4 .given .1) _ (carried .carry-out .ensures .0),
     )
 
 same-length : tie.Need-same-length
 same-length c = search needs
 
-returns-4 : tie.Need-returns-4
-returns-4 c =
+returns-5 : tie.Need-returns-5
+returns-5 c =
     let finished = c .before .before in
     let carried = finished .before .before .before .before in
     let begun = carried .before .before .before .before .before in
     let worst = begun .before .before in
     let best = worst .before .before .before in
-    let three = best .before .before .before .before .before .before .before in
-    let k = three .before .before in
-    let p = best .before .before .smaller .ensures in
-    let q = best .before .larger .ensures in (
-      done-answer (blockOf k) (outOf k) (eOf k) (fOf k) (opens k) (room k) (foundAt k) (is-found k) (is-done k) (three .if1 .left) _ _ p q _
-          (best .best-way .ensures) _ (worst .enum-told3 .given .1) _ (carried .carry-out .ensures .0),
-      done-bytes (blockOf k) (outOf k) (eOf k) (fOf k) (opens k) (room k) (foundAt k) (is-found k) (is-done k) (three .if1 .left) _ _ p q _
-          (best .best-way .ensures) _ (worst .enum-told3 .given .1) _ (carried .carry-out .ensures .0) _ _ _ _ (carried .carry-out .ensures .1)
+    let larger = best .before in
+    let region = regionAt larger in
+    let k = edgeOf region in
+    let three = threeAt region .if1 .left in
+    let p = larger .before .smaller .ensures in
+    let q = larger .larger .ensures in
+    let (single, own) = one region in (
+      done-answer (blockOf k) (outOf k) (eOf k) (fOf k) (opens k) (room k) (foundAt k) (is-found k) (is-done k) three _ _ p q single _
+          (best .best-way .ensures) _ (worst .enum-told4 .given .1) _ (carried .carry-out .ensures .0),
+      done-bytes (blockOf k) (outOf k) (eOf k) (fOf k) (opens k) (room k) (foundAt k) (is-found k) (is-done k) three _ _ p q single _
+          (best .best-way .ensures) _ (worst .enum-told4 .given .1) _ (carried .carry-out .ensures .0) _ _ _ _ (carried .carry-out .ensures .1)
           (begun .begin .ensures) refl (finished .finish .ensures),
     )
 
@@ -210,6 +259,9 @@ flip-edge-spec =
     enum-told-2
     returns
     returns-2
+    enum-known-regions
+    enum-told-3
+    returns-3
     shared-slice-read-count
     cast-count
     shared-slice-read-n
@@ -223,9 +275,9 @@ flip-edge-spec =
     smaller-requires
     larger-requires
     best-way-requires
-    enum-told-3
     enum-told-4
-    returns-3
+    enum-told-5
+    returns-4
     begin-requires
     sub-carry-out
     part-carry-out-start
@@ -233,4 +285,4 @@ flip-edge-spec =
     carry-out-requires
     finish-requires
     same-length
-    returns-4)
+    returns-5)

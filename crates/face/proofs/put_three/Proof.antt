@@ -15,22 +15,22 @@ use Rattle.face.proofs.put_three.Statement.{statement}
 use Rattle.face.proofs.put_three.Tie as tie
 
 -- a row of the edge a, b
-abbrev rowOf : Sharing → ℕ → ℕ → Row
-rowOf found r s = record { p = found .a; q = found .b; r = r; s = s; region = found .region }
+abbrev rowOf : Sharing → ℕ → ℕ → ℕ → Row
+rowOf found region r s = record { p = found .a; q = found .b; r = r; s = s; region = region }
 
-module _ (table one two three : List ℕ) (at : ℕ) (found : Sharing) (u v w : ℕ) (l : Link) (room : rowSize * (at + 3) ≤ length table)
+module _ (table one two three : List ℕ) (at : ℕ) (found : Sharing) (region u v w : ℕ) (l : Link) (room : rowSize * (at + 3) ≤ length table)
     (follow : (v, w) ≡ l) where
-  all-three : one ≡ withRows table at (rowOf found u v ∷ []) → two ≡ withRows one (at + 1) (rowOf found v w ∷ [])
-      → three ≡ withRows two (at + 2) (rowOf found w u ∷ []) → three ≡ withRows table at (threeOf found u (l .0) (l .1))
+  all-three : one ≡ withRows table at (rowOf found region u v ∷ []) → two ≡ withRows one (at + 1) (rowOf found region v w ∷ [])
+      → three ≡ withRows two (at + 2) (rowOf found region w u ∷ []) → three ≡ withRows table at (threeOf found region u (l .0) (l .1))
   all-three e f g =
-      let r = rowOf found u v in
-      let s = rowOf found v w in
-      let t = rowOf found w u in
+      let r = rowOf found region u v in
+      let s = rowOf found region v w in
+      let t = rowOf found region w u in
       g
       ∙ ap (λ l. withRows l (at + 2) (t ∷ [])) (f ∙ ap (λ l. withRows l (at + 1) (s ∷ [])) e
       ∙ with-more table at (at + 1) (r ∷ []) (s ∷ []) refl (omega arith))
       ∙ with-more table at (at + 2) (r ∷ s ∷ []) (t ∷ []) refl (omega arith)
-      ∙ ap (λ (l : Link). withRows table at (threeOf found u (l .0) (l .1))) follow
+      ∙ ap (λ (l : Link). withRows table at (threeOf found region u (l .0) (l .1))) follow
 
 link-of-requires : tie.Need-link-of-requires
 link-of-requires c κs = search needs
@@ -60,7 +60,7 @@ returns c =
     let first = second .before .before .before .before in
     let linked = first .before .before in
     let start = linked .before .before .before in
-    all-three (start .args .rows .now) _ _ _ (start .args .at) (start .args .found) (start .args .u) (linked .link-of .result .v)
+    all-three (start .args .rows .now) _ _ _ (start .args .at) (start .args .found) (start .args .region) (start .args .u) (linked .link-of .result .v)
     (linked .link-of .result .w) _ (start .pre .0) (linked .link-of .ensures)
     (first .put-row .ensures) (second .put-row2 .ensures) (third .put-row3 .ensures)
 

@@ -5,8 +5,10 @@ use mathlib.Core.Logic.{⊎-elim}
 use mathlib.Core.Path.{_≡_, refl, _∙_}
 use native.Mathlib.Omega.{arith}
 use borrow.Author.Needs.{needs}
-use Rattle.lists.specs.Lists.{those, first, numbersFrom}
+use Rattle.lists.specs.Lists.{any, those, first, numbersFrom}
 use Rattle.rows.specs.Rows.{rowsIn}
+use Rattle.rows.specs.Regions.{regionOf, mixed}
+use Rattle.rows.specs.Steps.{regionsOf}
 use Rattle.rows.proofs.RowsOfTables.{rows-length}
 use Rattle.walk.specs.Walk.{smallest}
 use Rattle.calls.specs.Flipping.{pairOf}
@@ -22,7 +24,7 @@ abbrev μ-loop : tie.MeasureT-loop
 μ-loop table n x y z found₀ i₀ found i = n - i
 
 loop-holds : tie.Need-loop-holds Inv-loop μ-loop
-unfolding pairOf rowsIn numbersFrom those smallest first
+unfolding pairOf rowsIn numbersFrom those smallest first any regionsOf regionOf mixed
 loop-holds c = (omega arith, refl)
 
 row-in-requires : tie.Need-row-in-requires Inv-loop μ-loop

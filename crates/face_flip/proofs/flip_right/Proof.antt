@@ -1,11 +1,22 @@
--- `flip_right` tests 10, 11, 18, 14 and 15, in this order, and writes only behind the last.
+-- `flip_right` tests 10, 11, 18, 20, 14 and 15, in this order, and writes only behind the last.
 use native.Mathlib.Omega.{arith}
 use borrow.Author.Tests.{not-true, not-false}
 use Rattle.tally.proofs.OpensMeasured.{block-size, few-rows, rows-size}
-use Rattle.face_flip.proofs.FlippedFaces.{few-kept, is-10, is-11, is-18, is-14, is-15, is-0, found-linked, after-ready}
+use Rattle.face_flip.proofs.FlippedFaces.{few-kept, is-10, is-11, is-18, is-20, is-14, is-15, is-0, found-linked, after-ready}
 use borrow.Author.Needs.{needs}
 use Rattle.face_flip.proofs.flip_right.Statement.{statement}
 use Rattle.face_flip.proofs.flip_right.Tie as tie
+
+-- behind 18: the apexes differ
+abbrev sharedAt : tie.Else3 → tie.After-share
+sharedAt k = k .before .before .before .before .before .before
+
+abbrev startAt : tie.Else3 → tie.Start
+startAt k = sharedAt k .before .before .before .before .before
+
+-- behind 20: both rows have one region
+abbrev apexesAt : tie.After-known-told → tie.Else3
+apexesAt k = k .before .before .before
 
 shared-slice-read-n : tie.Need-shared-slice-read-n
 shared-slice-read-n c =
@@ -57,6 +68,23 @@ returns-3 c =
     is-18 (a .block .now) (a .out .now) (a .x) (a .y) (a .z) (start .pre) (shared .share .result) (shared .share .ensures) (e1 .if1 .left)
     (e2 .if2 .left) (c .if3 .taken)
 
+enum-known-regions : tie.Need-enum-known-regions
+enum-known-regions c = search needs
+
+enum-told : tie.Need-enum-told
+enum-told c = search needs
+
+returns-4 : tie.Need-returns-4
+returns-4 c =
+    let e3 = c .before .before in
+    let e2 = e3 .before .before in
+    let e1 = e2 .before .before in
+    let shared = sharedAt e3 in
+    let start = startAt e3 in
+    let a = start .args in
+    is-20 (a .block .now) (a .out .now) (a .x) (a .y) (a .z) (start .pre) (shared .share .result) (shared .share .ensures) (e1 .if1 .left)
+    (e2 .if2 .left) (e3 .if3 .left) (c .enum-told .given .1)
+
 sub-keep-others : tie.Need-sub-keep-others
 sub-keep-others c = search needs
 
@@ -64,49 +92,34 @@ part-keep-others-start : tie.Need-part-keep-others-start
 part-keep-others-start c = search needs
 
 part-keep-others-end : tie.Need-part-keep-others-end
-part-keep-others-end c =
-    let e3 = c in
-    let e2 = e3 .before .before in
-    let e1 = e2 .before .before in
-    let shared = e1 .before .before in
-    let start = shared .before .before .before .before .before in
-    let a = start .args in
-    omega (arith, block-size (start .args .block .now) (start .pre .opens))
+part-keep-others-end c = let start = startAt (apexesAt c) in omega (arith, block-size (start .args .block .now) (start .pre .opens))
 
 slice-aggregate-keep-others : tie.Need-slice-aggregate-keep-others
 slice-aggregate-keep-others c = search needs
 
 keep-others-requires : tie.Need-keep-others-requires
 keep-others-requires c κs =
-    let e3 = c .before .before in
-    let e2 = e3 .before .before in
-    let e1 = e2 .before .before in
-    let shared = e1 .before .before in
-    let start = shared .before .before .before .before .before in
-    let a = start .args in
+    let start = startAt (apexesAt (c .before .before)) in
     omega (arith, few-rows (start .args .block .now) (start .pre .opens), rows-size (start .args .block .now) (start .pre .opens))
 
 add-if4 : tie.Need-add-if4
 add-if4 c =
-    let e3 = c .before .before .before .before in
-    let e2 = e3 .before .before in
-    let e1 = e2 .before .before in
-    let shared = e1 .before .before in
-    let start = shared .before .before .before .before .before in
+    let start = startAt (apexesAt (c .before .before .before .before)) in
     let a = start .args in
     omega (arith, c .before .keep-others .ensures .0, few-kept (a .block .now) (a .x) (a .y) (a .z) (start .pre .opens))
 
-returns-4 : tie.Need-returns-4
-returns-4 c =
+returns-5 : tie.Need-returns-5
+returns-5 c =
     let keeps = c .before .before in
-    let e3 = keeps .before .before .before in
+    let region = keeps .before .before .before in
+    let e3 = apexesAt region in
     let e2 = e3 .before .before in
     let e1 = e2 .before .before in
-    let shared = e1 .before .before in
-    let start = shared .before .before .before .before .before in
+    let shared = sharedAt e3 in
+    let start = startAt e3 in
     let a = start .args in
     is-14 (a .block .now) (a .out .now) (a .x) (a .y) (a .z) (start .pre) (shared .share .result) (shared .share .ensures) (e1 .if1 .left)
-    (e2 .if2 .left) (e3 .if3 .left) (keeps .keep-others .result) _ (keeps .keep-others .ensures .0)
+    (e2 .if2 .left) (e3 .if3 .left) _ (region .before .regions .given .1) (keeps .keep-others .result) _ (keeps .keep-others .ensures .0)
     (keeps .keep-others .ensures .1) (c .if4 .taken)
 
 slice-aggregate-put-three : tie.Need-slice-aggregate-put-three
@@ -119,15 +132,16 @@ put-three-requires : tie.Need-put-three-requires
 put-three-requires c κs =
     let e4 = c .before .before in
     let keeps = e4 .before .before in
-    let e3 = keeps .before .before .before in
+    let region = keeps .before .before .before in
+    let e3 = apexesAt region in
     let e2 = e3 .before .before in
     let e1 = e2 .before .before in
-    let shared = e1 .before .before in
-    let start = shared .before .before .before .before .before in
+    let shared = sharedAt e3 in
+    let start = startAt e3 in
     let a = start .args in (
       omega arith,
       found-linked (a .block .now) (a .out .now) (a .x) (a .y) (a .z) (start .pre) (shared .share .result) (shared .share .ensures)
-          (e1 .if1 .left) (e2 .if2 .left) (e3 .if3 .left) (keeps .keep-others .result) _
+          (e1 .if1 .left) (e2 .if2 .left) (e3 .if3 .left) _ (region .before .regions .given .1) (keeps .keep-others .result) _
           (keeps .keep-others .ensures .0) (keeps .keep-others .ensures .1) (c .least .result) (c .least .ensures),
     )
 
@@ -143,11 +157,12 @@ shared-slice-read-keeps-mesh-rule c =
     let least = put .before in
     let e4 = least .before .before in
     let keeps = e4 .before .before in
-    let e3 = keeps .before .before .before in
+    let region = keeps .before .before .before in
+    let e3 = apexesAt region in
     let e2 = e3 .before .before in
     let e1 = e2 .before .before in
-    let shared = e1 .before .before in
-    let start = shared .before .before .before .before .before in
+    let shared = sharedAt e3 in
+    let start = startAt e3 in
     let a = start .args in
     omega (arith, block-size (start .args .block .now) (start .pre .opens))
 
@@ -157,21 +172,22 @@ cast-keeps-mesh-rule c = omega (arith, c .shared-slice-known3 .given 1)
 keeps-mesh-rule-requires : tie.Need-keeps-mesh-rule-requires
 keeps-mesh-rule-requires c κs = search needs
 
-returns-5 : tie.Need-returns-5
-returns-5 c =
+returns-6 : tie.Need-returns-6
+returns-6 c =
     let tested = c .before in
     let put = tested .before .before .before .before in
     let least = put .before in
     let e4 = least .before .before in
     let keeps = e4 .before .before in
-    let e3 = keeps .before .before .before in
+    let region = keeps .before .before .before in
+    let e3 = apexesAt region in
     let e2 = e3 .before .before in
     let e1 = e2 .before .before in
-    let shared = e1 .before .before in
-    let start = shared .before .before .before .before .before in
+    let shared = sharedAt e3 in
+    let start = startAt e3 in
     let a = start .args in
     is-15 (a .block .now) (a .out .now) (a .x) (a .y) (a .z) (start .pre) (shared .share .result) (shared .share .ensures) (e1 .if1 .left)
-    (e2 .if2 .left) (e3 .if3 .left) (keeps .keep-others .result) _
+    (e2 .if2 .left) (e3 .if3 .left) _ (region .before .regions .given .1) (keeps .keep-others .result) _
     (keeps .keep-others .ensures .0) (keeps .keep-others .ensures .1)
     (e4 .if4 .left) (least .least .result) (least .least .ensures) _ (put .put-three .ensures) _ (tested .keeps-mesh-rule .ensures)
     (not-true _ (c .if5 .taken))
@@ -189,22 +205,23 @@ write-requires c κs =
     let least = put .before in
     let e4 = least .before .before in
     let keeps = e4 .before .before in
-    let e3 = keeps .before .before .before in
+    let region = keeps .before .before .before in
+    let e3 = apexesAt region in
     let e2 = e3 .before .before in
     let e1 = e2 .before .before in
-    let shared = e1 .before .before in
-    let start = shared .before .before .before .before .before in
+    let shared = sharedAt e3 in
+    let start = startAt e3 in
     let a = start .args in
     after-ready (a .block .now) (a .out .now) (a .x) (a .y) (a .z) (start .pre) (shared .share .result) (shared .share .ensures)
-    (e1 .if1 .left) (e2 .if2 .left) (e3 .if3 .left) (keeps .keep-others .result) _
+    (e1 .if1 .left) (e2 .if2 .left) (e3 .if3 .left) _ (region .before .regions .given .1) (keeps .keep-others .result) _
     (keeps .keep-others .ensures .0) (keeps .keep-others .ensures .1)
     (e4 .if4 .left) (least .least .result) (least .least .ensures) _ (put .put-three .ensures)
 
 same-length : tie.Need-same-length
 same-length c = search needs
 
-returns-6 : tie.Need-returns-6
-returns-6 c =
+returns-7 : tie.Need-returns-7
+returns-7 c =
     let done = c .before .before in
     let e5 = done .before .before .before in
     let tested = e5 .before in
@@ -212,14 +229,15 @@ returns-6 c =
     let least = put .before in
     let e4 = least .before .before in
     let keeps = e4 .before .before in
-    let e3 = keeps .before .before .before in
+    let region = keeps .before .before .before in
+    let e3 = apexesAt region in
     let e2 = e3 .before .before in
     let e1 = e2 .before .before in
-    let shared = e1 .before .before in
-    let start = shared .before .before .before .before .before in
+    let shared = sharedAt e3 in
+    let start = startAt e3 in
     let a = start .args in
     is-0 (a .block .now) (a .out .now) (a .x) (a .y) (a .z) (start .pre) (shared .share .result) (shared .share .ensures) (e1 .if1 .left)
-    (e2 .if2 .left) (e3 .if3 .left) (keeps .keep-others .result) _
+    (e2 .if2 .left) (e3 .if3 .left) _ (region .before .regions .given .1) (keeps .keep-others .result) _
     (keeps .keep-others .ensures .0) (keeps .keep-others .ensures .1)
     (e4 .if4 .left) (least .least .result) (least .least .ensures) _ (put .put-three .ensures) _ (tested .keeps-mesh-rule .ensures)
     (not-false _ (e5 .if5 .left)) _ (done .write .ensures)
@@ -237,13 +255,16 @@ flip-right-spec =
     returns
     returns-2
     returns-3
+    enum-known-regions
+    enum-told
+    returns-4
     sub-keep-others
     part-keep-others-start
     part-keep-others-end
     slice-aggregate-keep-others
     keep-others-requires
     add-if4
-    returns-4
+    returns-5
     slice-aggregate-put-three
     least-requires
     put-three-requires
@@ -252,9 +273,9 @@ flip-right-spec =
     shared-slice-read-keeps-mesh-rule
     cast-keeps-mesh-rule
     keeps-mesh-rule-requires
-    returns-5
+    returns-6
     slice-aggregate-write
     add-write
     write-requires
     same-length
-    returns-6)
+    returns-7)

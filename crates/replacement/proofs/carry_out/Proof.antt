@@ -13,15 +13,12 @@ keep-others-requires c κs =
     (start .pre .1) in
     (omega (arith, held), omega (arith, room))
 
-region-of-requires : tie.Need-region-of-requires
-region-of-requires c κs = search needs
-
 cast-m : tie.Need-cast-m
 cast-m c = search needs
 
 expand-requires : tie.Need-expand-requires
 expand-requires c κs =
-    let kept = c .before .before .before .before .before .before in
+    let kept = c .before .before .before .before .before in
     let start = kept .before .before .before .before .before in
     let args = start .args in (
       expand-ready (args .coordinates .now) (args .count) (args .table .now) (args .n) (args .a) (args .b) (start .pre .0) (start .pre .1) _
@@ -36,19 +33,17 @@ same-length c = search needs
 returns : tie.Need-returns
 returns c =
     let expanded = c .before .before in
-    let region = expanded .before .before .before .before in
-    let kept = region .before .before .before in
+    let kept = expanded .before .before .before .before .before .before in
     let start = kept .before .before .before .before .before in
     let args = start .args in
     carried-out (args .coordinates .now) (args .count) (args .table .now) (args .n) (args .a) (args .b) (start .pre .0) (start .pre .1) _
-    (kept .keep-others .ensures .0) _ (kept .keep-others .ensures .1) _ (region .region-of .ensures) _ _ (expanded .expand .ensures .1)
+    (kept .keep-others .ensures .0) _ (kept .keep-others .ensures .1) _ _ (expanded .expand .ensures .1)
 
 pub carry-out-spec : {M : Type 1} → statement M
 carry-out-spec =
     tie.close
     (tie.spec
     keep-others-requires
-    region-of-requires
     cast-m
     expand-requires
     same-length

@@ -15,10 +15,16 @@ refused-requires c κs = search needs
 
 returns : tie.Need-returns
 returns c =
-    let got = c .before .before .before in
+    let got = c .before .before .before .before in
     let args = got .before .before .args in
     let g : Gathered (args .table .now) (args .n) (args .a) (args .b) =
-    record { pre = got .before .before .pre; links = got .gather .result; are = got .gather .ensures .1 }
+    record {
+      pre = got .before .before .pre;
+      links = got .gather .result .links;
+      are = got .gather .ensures .1;
+      regions = got .gather .result .regions;
+      of-rows = got .gather .ensures .3;
+    }
     in
     c .refused .ensures ∙ gives-10 g (args .chains) (c .before .if1 .taken)
 
@@ -27,7 +33,7 @@ first-point-requires c κs = search needs
 
 walk-requires : tie.Need-walk-requires
 walk-requires c κs =
-    let got = c .before .before .before in
+    let got = c .before .before .before .before in
     record {
       rows = got .before .before .args .n;
       meshed = got .before .before .pre;
@@ -40,12 +46,18 @@ walk-requires c κs =
 abbrev At-walk : Type 0
 At-walk = tie.After-walk
 
-abbrev gone : (w : At-walk) → let args = w .before .before .before .before .before .before .args in
+abbrev gone : (w : At-walk) → let args = w .before .before .before .before .before .before .before .args in
     Gone (args .table .now) (args .n) (args .a) (args .b)
 gone w =
-    let got = w .before .before .before .before in
+    let got = w .before .before .before .before .before in
     record {
-      gathered = record { pre = got .before .before .pre; links = got .gather .result; are = got .gather .ensures .1 };
+      gathered = record {
+        pre = got .before .before .pre;
+        links = got .gather .result .links;
+        are = got .gather .ensures .1;
+        regions = got .gather .result .regions;
+        of-rows = got .gather .ensures .3;
+      };
       some-link = omega (arith, w .before .before .if1 .left);
       v = w .before .first-point .result;
       start = w .before .first-point .ensures;

@@ -1,4 +1,4 @@
--- Each way out is one case of the laws on answers 19 and 14 to 16.
+-- Each way out is one case of the laws on answers 19, 20 and 14 to 16.
 use Prim.Native.Nat.{_≤_}
 use mathlib.Core.Bool.{false}
 use mathlib.Core.Path.{_≡_, sym, _∙_}
@@ -6,10 +6,11 @@ use borrow.Author.Needs.{needs}
 use borrow.Author.Tests.{not-true, not-false}
 use Rattle.layout.specs.Layout.{maxRows}
 use Rattle.ring.specs.Ring.{Site, notFlat}
+use Rattle.rows.specs.Regions.{regionOf, mixed}
 use Rattle.triangulation.specs.Triangulation.{rowsAfter}
 use Rattle.triangulation.specs.Steps.{siteIn}
-use Rattle.verdict.proofs.VerdictAnswers.{countable, crossed, flat-is, has-room}
-use Rattle.verdict.proofs.VerdictAnswers.{gives-19, gives-14, gives-15, gives-16, gives-0}
+use Rattle.verdict.proofs.VerdictAnswers.{countable, crossed, flat-is, one-told, has-room}
+use Rattle.verdict.proofs.VerdictAnswers.{gives-19, gives-20, gives-14, gives-15, gives-16, gives-0}
 use Rattle.verdict.proofs.decide.Statement.{statement}
 use Rattle.verdict.proofs.decide.Tie as tie
 
@@ -19,34 +20,50 @@ told : (k : tie.After-not-flat) → let args = k .before .before .before .args i
 told k =
     let start = k .before .before .before in
     let args = start .args in
-    flat-is (args .coordinates .now) (args .count) (args .table .now) (args .n) (args .a) (args .b) (start .pre)
+    flat-is (args .coordinates .now) (args .count) (args .table .now) (args .n) (args .a) (args .b) (start .pre .0)
     (k .not-flat .result) (k .not-flat .ensures)
 
--- behind answers 19 and 14
-abbrev At-room : Type 0
-At-room = tie.Else2
+-- behind answers 19 and 20
+abbrev At-region : Type 0
+At-region = tie.After-known-told
 
-abbrev siteAt : At-room → Site
+abbrev siteAt : At-region → Site
 siteAt k =
     let args = k .before .before .before .before .before .before .before .args in
     siteIn (args .coordinates .now) (args .count) (args .table .now) (args .n) (args .a) (args .b)
 
-level : (k : At-room) → notFlat (siteAt k) ≡ false
-level k = told (k .before .before .before .before) ∙ k .before .before .before .if1 .left
+level : (k : At-region) → notFlat (siteAt k) ≡ false
+level k =
+    let flat = k .before .before .before in
+    told (flat .before) ∙ flat .if1 .left
 
-room : (k : At-room) → rowsAfter (siteAt k) ≤ maxRows
+one : (k : At-region) → (mixed (siteAt k .removed) ≡ false) × (k .before .regions .given .0 .0 ≡ regionOf (siteAt k .removed))
+one k =
+    let start = k .before .before .before .before .before .before .before in
+    let args = start .args in
+    one-told (args .coordinates .now) (args .count) (args .table .now) (args .n) (args .a) (args .b) (start .pre .0)
+    _ (start .pre .1) _ (k .before .regions .given .1)
+
+-- and 14
+abbrev At-room : Type 0
+At-room = tie.Else2
+
+abbrev regionAt : At-room → At-region
+regionAt k = k .before .before .before
+
+room : (k : At-room) → rowsAfter (siteAt (regionAt k)) ≤ maxRows
 room k =
     let counted = k .before in
-    let start = counted .before .before .before .before .before .before in
+    let start = regionAt k .before .before .before .before .before .before .before in
     let args = start .args in
-    has-room (args .coordinates .now) (args .count) (args .table .now) (args .n) (args .a) (args .b) (start .pre) _ (counted .rows-after .ensures)
+    has-room (args .coordinates .now) (args .count) (args .table .now) (args .n) (args .a) (args .b) (start .pre .0) _ (counted .rows-after .ensures)
     (k .if2 .left)
 
 not-flat-requires : tie.Need-not-flat-requires
 not-flat-requires c κs =
     let start = c .before .before in
     let args = start .args in
-    crossed (args .coordinates .now) (args .count) (args .table .now) (args .n) (args .a) (args .b) (start .pre)
+    crossed (args .coordinates .now) (args .count) (args .table .now) (args .n) (args .a) (args .b) (start .pre .0)
 
 no-plan-requires : tie.Need-no-plan-requires
 no-plan-requires c κs = search needs
@@ -56,50 +73,68 @@ returns c =
     let judged = c .before .before in
     let start = judged .before .before .before in
     let args = start .args in
-    gives-19 (args .coordinates .now) (args .count) (args .table .now) (args .n) (args .a) (args .b) (start .pre)
+    gives-19 (args .coordinates .now) (args .count) (args .table .now) (args .n) (args .a) (args .b) (start .pre .0)
     (told judged ∙ c .before .if1 .taken) _ (c .no-plan .ensures)
 
-cast-m : tie.Need-cast-m
-cast-m c = search needs
+enum-known-regions : tie.Need-enum-known-regions
+enum-known-regions c = search needs
 
-rows-after-requires : tie.Need-rows-after-requires
-rows-after-requires c κs =
-    let start = c .before .before .before .before .before in
-    let args = start .args in
-    countable (args .coordinates .now) (args .count) (args .table .now) (args .n) (args .a) (args .b) (start .pre)
+enum-told : tie.Need-enum-told
+enum-told c = search needs
 
 no-plan-requires-2 : tie.Need-no-plan-requires-2
 no-plan-requires-2 c κs = search needs
 
 returns-2 : tie.Need-returns-2
 returns-2 c =
-    let counted = c .before .before in
-    let judged = counted .before .before .before in
-    let start = judged .before .before .before in
+    let flat = c .before .before .before in
+    let start = flat .before .before .before .before in
     let args = start .args in
-    gives-14 (args .coordinates .now) (args .count) (args .table .now) (args .n) (args .a) (args .b) (start .pre)
-    (told judged ∙ counted .before .before .if1 .left) _ (counted .rows-after .ensures) (c .before .if2 .taken) _ (c .no-plan2 .ensures)
+    gives-20 (args .coordinates .now) (args .count) (args .table .now) (args .n) (args .a) (args .b) (start .pre .0) _ (start .pre .1)
+    (told (flat .before) ∙ flat .if1 .left) (c .before .enum-told .given .1) _ (c .no-plan2 .ensures)
 
-best-way-requires : tie.Need-best-way-requires
-best-way-requires c κs = c .before .before .before .before .before .before .before .pre
+cast-m : tie.Need-cast-m
+cast-m c = search needs
 
-enum-known-best : tie.Need-enum-known-best
-enum-known-best c = search needs
-
-enum-told : tie.Need-enum-told
-enum-told c = search needs
+rows-after-requires : tie.Need-rows-after-requires
+rows-after-requires c κs =
+    let start = c .before .before .before .before .before .before .before .before in
+    let args = start .args in
+    countable (args .coordinates .now) (args .count) (args .table .now) (args .n) (args .a) (args .b) (start .pre .0)
 
 no-plan-requires-3 : tie.Need-no-plan-requires-3
 no-plan-requires-3 c κs = search needs
 
 returns-3 : tie.Need-returns-3
 returns-3 c =
-    let carried = c .before .before .before .before in
-    let start = carried .before .before .before .before .before .before .before .before in
+    let counted = c .before .before in
+    let region = counted .before .before in
+    let start = region .before .before .before .before .before .before .before in
     let args = start .args in
-    gives-15 (args .coordinates .now) (args .count) (args .table .now) (args .n) (args .a) (args .b) (start .pre)
-    (level (carried .before)) (room (carried .before))
-    _ (carried .best-way .ensures) (c .before .enum-told .given .1) _ (c .no-plan3 .ensures)
+    gives-14 (args .coordinates .now) (args .count) (args .table .now) (args .n) (args .a) (args .b) (start .pre .0)
+    (level region) (one region .0) _ (counted .rows-after .ensures) (c .before .if2 .taken) _ (c .no-plan3 .ensures)
+
+best-way-requires : tie.Need-best-way-requires
+best-way-requires c κs = search needs
+
+enum-known-best : tie.Need-enum-known-best
+enum-known-best c = search needs
+
+enum-told-2 : tie.Need-enum-told-2
+enum-told-2 c = search needs
+
+no-plan-requires-4 : tie.Need-no-plan-requires-4
+no-plan-requires-4 c κs = search needs
+
+returns-4 : tie.Need-returns-4
+returns-4 c =
+    let found = c .before .before .before .before in
+    let region = regionAt (found .before) in
+    let start = region .before .before .before .before .before .before .before in
+    let args = start .args in
+    gives-15 (args .coordinates .now) (args .count) (args .table .now) (args .n) (args .a) (args .b) (start .pre .0)
+    (level region) (one region .0) (room (found .before))
+    _ (found .best-way .ensures) (c .before .enum-told2 .given .1) _ (c .no-plan4 .ensures)
 
 worst-round-requires : tie.Need-worst-round-requires
 worst-round-requires c κs = search needs
@@ -107,32 +142,34 @@ worst-round-requires c κs = search needs
 worse-requires : tie.Need-worse-requires
 worse-requires c κs = search needs
 
-no-plan-requires-4 : tie.Need-no-plan-requires-4
-no-plan-requires-4 c κs = search needs
-
-returns-4 : tie.Need-returns-4
-returns-4 c =
-    let compared = c .before .before in
-    let told = compared .before .before .before in
-    let carried = told .before .before .before in
-    let start = carried .before .before .before .before .before .before .before .before in
-    let args = start .args in
-    gives-16 (args .coordinates .now) (args .count) (args .table .now) (args .n) (args .a) (args .b) (start .pre)
-    (level (carried .before)) (room (carried .before))
-    _ (carried .best-way .ensures) _ (told .best .given .1) _ (compared .before .worst-round .ensures)
-    (sym (compared .worse .ensures) ∙ not-true _ (c .before .if3 .taken)) _ (c .no-plan4 .ensures)
+no-plan-requires-5 : tie.Need-no-plan-requires-5
+no-plan-requires-5 c κs = search needs
 
 returns-5 : tie.Need-returns-5
 returns-5 c =
-    let compared = c .before in
-    let told = compared .before .before .before in
-    let carried = told .before .before .before in
-    let start = carried .before .before .before .before .before .before .before .before in
+    let compared = c .before .before in
+    let best = compared .before .before .before in
+    let found = best .before .before .before in
+    let region = regionAt (found .before) in
+    let start = region .before .before .before .before .before .before .before in
     let args = start .args in
-    gives-0 (args .coordinates .now) (args .count) (args .table .now) (args .n) (args .a) (args .b) (start .pre)
-    (level (carried .before)) (room (carried .before))
-    _ (carried .best-way .ensures) _ (told .best .given .1) _ (compared .before .worst-round .ensures)
-    (sym (compared .worse .ensures) ∙ not-false _ (c .if3 .left))
+    gives-16 (args .coordinates .now) (args .count) (args .table .now) (args .n) (args .a) (args .b) (start .pre .0)
+    (level region) (one region .0) (room (found .before))
+    _ (found .best-way .ensures) _ (best .best .given .1) _ (compared .before .worst-round .ensures)
+    (sym (compared .worse .ensures) ∙ not-true _ (c .before .if3 .taken)) _ (c .no-plan5 .ensures)
+
+returns-6 : tie.Need-returns-6
+returns-6 c =
+    let compared = c .before in
+    let best = compared .before .before .before in
+    let found = best .before .before .before in
+    let region = regionAt (found .before) in
+    let start = region .before .before .before .before .before .before .before in
+    let args = start .args in
+    gives-0 (args .coordinates .now) (args .count) (args .table .now) (args .n) (args .a) (args .b) (start .pre .0)
+    (level region) (one region .0) (room (found .before))
+    _ (found .best-way .ensures) _ (best .best .given .1) _ (compared .before .worst-round .ensures)
+    (sym (compared .worse .ensures) ∙ not-false _ (c .if3 .left)) _ (one region .1)
 
 pub decide-spec : {M : Type 1} → statement M
 decide-spec =
@@ -141,17 +178,21 @@ decide-spec =
     not-flat-requires
     no-plan-requires
     returns
-    cast-m
-    rows-after-requires
+    enum-known-regions
+    enum-told
     no-plan-requires-2
     returns-2
-    best-way-requires
-    enum-known-best
-    enum-told
+    cast-m
+    rows-after-requires
     no-plan-requires-3
     returns-3
-    worst-round-requires
-    worse-requires
+    best-way-requires
+    enum-known-best
+    enum-told-2
     no-plan-requires-4
     returns-4
-    returns-5)
+    worst-round-requires
+    worse-requires
+    no-plan-requires-5
+    returns-5
+    returns-6)
