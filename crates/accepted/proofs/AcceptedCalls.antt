@@ -10,13 +10,15 @@ use lib.ListN.{length}
 use Rattle.lists.specs.Lists.{every}
 use Rattle.lists.proofs.Tests.{and-true}
 use Rattle.rows.specs.Rows.{holds, holdsEdge, holdsFace}
+use Rattle.rows.specs.Regions.{mixed}
 use Rattle.layout.specs.Layout.{maxRows, fieldsOf, bytesOf}
 use Rattle.block.proofs.RightBlocks.{right-block}
 use Rattle.layout.proofs.PatchWritten.{rows-counted}
 use Rattle.ring.specs.Ring.{Site, siteOf, m, minRing, notFlat}
-use Rattle.triangulation.specs.Triangulation.{newRows, tableAfter, rowsAfter}
+use Rattle.triangulation.specs.Triangulation.{triangles, newRows, tableAfter, rowsAfter}
 use Rattle.triangulation.specs.Admissible.{admissible}
 use Rattle.triangulation.specs.Best.{chosen}
+use Rattle.triangulation.proofs.Trees.{rows-region}
 use Rattle.triangulation.proofs.WholeRing.{after-length, after-rows}
 use Rattle.calls.specs.Removing.{noWay, patchAfter, removeAnswer, removeBytes, Sound}
 use Rattle.calls.specs.Flipping.{pairOf, threeRows, patchAfter23, rowsFlipped, patchFlipped, flipAnswer, flipBytes}
@@ -24,6 +26,7 @@ use Rattle.calls.proofs.CallTests.{Flips23, removes, each-count, never-done, fl
 use Rattle.calls.proofs.SoundEdges.{opens-rule, sound-site}
 use Rattle.tables.proofs.FacingRows.{Facing, face-apart, two-facing, flipped-total}
 use Rattle.tables.proofs.RingReplaced.{length-fits}
+use Rattle.tables.proofs.RingOfThree.{round-region}
 use Rattle.accepted.specs.Accepted.{Accepted}
 use Rattle.accepted.proofs.AcceptedBytes.{accepted}
 use Rattle.accepted.proofs.ChosenWay.{site-total, some-way, site-chosen}
@@ -46,15 +49,16 @@ module _ (block : List ℕ) (e f : ℕ) (sound : Sound block e f) where
 
   -- ---- what is written, where some way keeps the mesh rule and there is room
 
-  site-accepted : notFlat site ≡ false → 3 ≤ m site → noWay site ≡ false → rowsAfter site ≤ maxRows
+  site-accepted : notFlat site ≡ false → mixed (site .removed) ≡ false → 3 ≤ m site → noWay site ≡ false → rowsAfter site ≤ maxRows
       → Accepted block (bytesOf (patchAfter site)) (holdsEdge (min e f) (max e f)) (newRows site 1 (chosen site))
-  unfolding patchAfter siteOf tableAfter admissible
-  site-accepted flat three way room =
+  unfolding patchAfter siteOf tableAfter newRows admissible
+  site-accepted flat unmixed three way room =
       let (t, w) = some-way block e f sound three way in
       let best = site-chosen block e f sound three t w in
       let table = tableAfter site (chosen site) in
       accepted block (sound .opens) table (omega (arith, after-length site (chosen site) (best .way .spans))) (best .way .keeps)
       (holdsEdge (min e f) (max e f)) (newRows site 1 (chosen site)) refl (site-total block e f sound flat (chosen site) (best .way .spans))
+      unmixed (rows-region site (triangles 1 (chosen site)))
 
 -- ---- the calls
 
@@ -65,7 +69,7 @@ unfolding removeBytes
 remove-accepted block out e f h =
     let r = removes block out e f h in
     let site = siteOf (fieldsOf block) e f in
-    rw h (site-accepted block e f (r .sound) (r .closed-or-flat) (length-fits site (r .length-right) .0) (r .way)
+    rw h (site-accepted block e f (r .sound) (r .closed-or-flat) (r .one-region) (length-fits site (r .length-right) .0) (r .way)
     (ltb-false maxRows (rowsAfter site) (r .room)))
 
 pub flip32-accepted : (block out : List ℕ) (e f : ℕ) → flipAnswer block out (e ∷ f ∷ []) ≡ 0
@@ -74,7 +78,7 @@ pub flip32-accepted : (block out : List ℕ) (e f : ℕ) → flipAnswer block ou
 unfolding flipBytes patchFlipped
 flip32-accepted block out e f h =
     let r = flips-32 block out e f h in
-    rw h (site-accepted block e f (r .sound) (rw (r .closed)) (omega (arith, r .three)) (r .way)
+    rw h (site-accepted block e f (r .sound) (rw (r .closed)) (r .one-region) (omega (arith, r .three)) (r .way)
     (room-32 block e f (r .sound) (r .closed) (r .three)))
 
 -- the two rows of a 2-3 flip that is not refused
@@ -88,7 +92,7 @@ flips-facing block out x y z r =
 pub flip23-accepted : (block out : List ℕ) (x y z : ℕ) → flipAnswer block out (x ∷ y ∷ z ∷ []) ≡ 0
     → let face = x ∷ y ∷ z ∷ [] in
     Accepted block (flipBytes block out (x ∷ y ∷ z ∷ [])) (holdsFace face) (threeRows (pairOf (fieldsOf block) face) face)
-unfolding flipBytes patchFlipped patchAfter23 pairOf
+unfolding flipBytes patchFlipped patchAfter23 pairOf threeRows
 flip23-accepted block out x y z h =
     let r = flips-23 block out x y z h in
     let face : List ℕ = x ∷ y ∷ z ∷ [] in
@@ -96,7 +100,7 @@ flip23-accepted block out x y z h =
     let pair = pairOf patch face in
     rw h
     (accepted block (r .opens) (patchAfter23 patch face .rows) (r .room) (r .rule) (holdsFace face) (threeRows pair face) refl
-    (flipped-total patch face (flips-facing block out x y z r)))
+    (flipped-total patch face (flips-facing block out x y z r)) (r .one-region) (round-region _ _ _ _ _ _))
 
 -- ---- the flip, whichever it is
 

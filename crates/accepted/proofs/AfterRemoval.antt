@@ -2,14 +2,12 @@
 use Prim.Native.Nat.{ℕ, _<_, min, max}
 use mathlib.Core.List.{List, map}
 use mathlib.Core.Option.{some}
-use mathlib.Core.Path.{_≡_, ap}
+use mathlib.Core.Path.{_≡_}
 use native.Mathlib.Omega.{arith}
-use lib.ListN.{length, getD}
+use lib.ListN.{length}
 use Rattle.lists.proofs.Lists.{those-split}
-use Rattle.lists.proofs.Places.{getD-inside}
 use Rattle.quality.specs.Quality.{worst}
 use Rattle.page.specs.Page.{shown, pageRow}
-use Rattle.rows.specs.declared.Row.{Row}
 use Rattle.rows.specs.RowMeasure.{rowQuality}
 use Rattle.rows.specs.Rows.{holdsEdge}
 use Rattle.layout.specs.Layout.{fieldsOf}
@@ -18,7 +16,7 @@ use Rattle.block.proofs.RightBlocks.{opens}
 use Rattle.tally.specs.Tally.{qualities, worstOfPatch}
 use Rattle.summary.specs.Summary.{summaryOf}
 use Rattle.ring.specs.Ring.{Site, siteOf, ringWith}
-use Rattle.triangulation.specs.Triangulation.{regionOf, tableAfter}
+use Rattle.triangulation.specs.Triangulation.{tableAfter}
 use Rattle.triangulation.specs.Best.{chosen}
 use Rattle.triangulation.proofs.WholeRing.{after-length}
 use Rattle.calls.specs.declared.Summarised.the-variants.{Summary as Summed}
@@ -49,10 +47,6 @@ module _ (block : List ℕ) (e f : ℕ) (sound : Sound block e f) where
   -- the worst tetrahedron round the edge now is one of the removed rows'
   pub worst-now : worst (map (rowQuality (site .points)) (site .removed)) ≡ some (worstNow site)
   worst-now = worst-of-removed site (some-removed block e f sound)
-
-  -- the region is that of the first removed row, whatever would stand in for it
-  pub first-region : (other : Row) → regionOf (site .removed) ≡ getD (site .removed) 0 other .region
-  first-region other = ap (λ (row : Row). row .region) (getD-inside (site .removed) 0 _ other (some-removed block e f sound))
 
   -- the patch has rows, so it has a worst one
   some-row : 0 < length (fieldsOf block .rows)

@@ -1,8 +1,8 @@
--- The order of the rows and their even arrangement change no answer of a removal or a flip, nor the ring, nor the numbers of the new rows:
+-- The order of the rows and their even arrangement change no answer of a removal or a flip, nor the ring, nor the new rows:
 -- what is so of two tables of the same tetrahedra is so of two blocks that hold them.
 use Prim.Native.Nat.{ℕ, zero, suc, _-_, min, max}
 use mathlib.Core.Bool.{Bool, true, false, cond, not, _&&_}
-use mathlib.Core.List.{List, [], _∷_, _++_, append-assoc, map}
+use mathlib.Core.List.{List, [], _∷_, _++_, append-assoc}
 use mathlib.Core.Path.{_≡_, refl, sym, ap, _∙_, subst}
 use borrow.Author.Tests.{eqb-true, eqb-false, eq-eqb}
 use lib.Dec.{eqb, ltb}
@@ -10,7 +10,7 @@ use lib.ListN.{length}
 use lib.Seq.{take-append-seam, drop-append-seam}
 use Rattle.lists.specs.Lists.{every, any, those, different}
 use Rattle.rows.specs.declared.Row.{Row}
-use Rattle.rows.specs.Rows.{numbers, holdsEdge, holdsFace}
+use Rattle.rows.specs.Rows.{holdsEdge, holdsFace}
 use Rattle.rows.specs.Tetrahedra.{SameTetrahedra}
 use Rattle.layout.specs.Layout.{fieldsOf}
 use Rattle.answers.specs.Answers.{Tests, firstRefusal, answerOf}
@@ -95,7 +95,7 @@ same-output : {block other output its-output : List ℕ} (goes : Row → Bool) (
     → fieldsOf output .rows ≡ those (λ row. not (goes row)) (fieldsOf block .rows) ++ new
     → fieldsOf its-output .rows ≡ those (λ row. not (goes row)) (fieldsOf other .rows) ++ its-new
     → SameTetrahedra (those (λ row. not (goes row)) (fieldsOf block .rows)) (those (λ row. not (goes row)) (fieldsOf other .rows))
-    → map numbers new ≡ map numbers its-new → SameOutput goes block other output its-output
+    → new ≡ its-new → SameOutput goes block other output its-output
 same-output {block} {other} {output} {its-output} goes new its-new rows its-rows kept fresh =
     let stay = those (λ row. not (goes row)) (fieldsOf block .rows) in
     let its-stay = those (λ row. not (goes row)) (fieldsOf other .rows) in
@@ -146,7 +146,7 @@ module _ (block other out : List ℕ) (e f : ℕ) (same : SameMesh block other) 
   remove-output-same done =
       same-output (holdsEdge (min e f) (max e f)) _ _ (remove-accepted block out e f done .rows)
       (remove-accepted other out e f (sym remove-answer-same ∙ done) .rows) (Removal.kept-same (fieldsOf block) (fieldsOf other) e f (tables same))
-      (Removal.numbers-of (fieldsOf block) (fieldsOf other) e f (tables same) (ends-fit block e f (removes block out e f done .sound) .2))
+      (Removal.rows-of (fieldsOf block) (fieldsOf other) e f (tables same) (ends-fit block e f (removes block out e f done .sound) .2))
 
 -- a flip, whatever its numbers
 module _ (block other out : List ℕ) (same : SameMesh block other) where
@@ -172,7 +172,7 @@ module _ (block other out : List ℕ) (same : SameMesh block other) where
   ends-output-same e f done =
       same-output (holdsEdge (min e f) (max e f)) _ _ (flip32-accepted block out e f done .rows)
       (flip32-accepted other out e f (done-too (e ∷ f ∷ []) done) .rows) (Removal.kept-same (fieldsOf block) (fieldsOf other) e f (tables same))
-      (Removal.numbers-of (fieldsOf block) (fieldsOf other) e f (tables same) (ends-fit block e f (flips-32 block out e f done .sound) .2))
+      (Removal.rows-of (fieldsOf block) (fieldsOf other) e f (tables same) (ends-fit block e f (flips-32 block out e f done .sound) .2))
 
   face-output-same : (x y z : ℕ) → flipAnswer block out (x ∷ y ∷ z ∷ []) ≡ 0
       → SameOutput (holdsFace (x ∷ y ∷ z ∷ [])) block other (flipBytes block out (x ∷ y ∷ z ∷ [])) (flipBytes other out (x ∷ y ∷ z ∷ []))

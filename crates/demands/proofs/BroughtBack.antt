@@ -1,16 +1,17 @@
 -- A 3-2 flip after a 2-3 flip is done and brings back the same two tetrahedra, whichever way round the apexes are named.
 use Prim.Native.Nat.{ℕ}
-use mathlib.Core.Bool.{true, not}
-use mathlib.Core.List.{List, [], _∷_, List·Memᴰ}
+use mathlib.Core.Bool.{true, false, not}
+use mathlib.Core.List.{List, [], _∷_}
 use mathlib.Core.Path.{_≡_, sym, ap, _∙_, subst}
 use native.Mathlib.Omega.{arith}
 use borrow.Author.Tests.{eq-eqb}
 use lib.Dec.{T}
 use lib.ListN.{length}
 use Rattle.lists.specs.Lists.{any}
-use Rattle.lists.proofs.Lists.{those-e}
 use Rattle.rows.specs.declared.Row.{Row}
-use Rattle.rows.specs.Rows.{holdsEdge, holdsFace}
+use Rattle.rows.specs.Rows.{holdsEdge}
+use Rattle.rows.specs.Regions.{mixed, OneRegion}
+use Rattle.rows.proofs.RegionsOfRows.{one-region, not-mixed}
 use Rattle.rows.specs.Tetrahedra.{SameTetrahedra}
 use Rattle.layout.specs.Layout.{Patch, blockBytes, fieldsOf}
 use Rattle.answers.specs.Answers.{firstRefusal}
@@ -28,7 +29,7 @@ use Rattle.tables.proofs.FacingRows.{Facing}
 use Rattle.tables.proofs.ApexesByWords.{TwoApexes, two-apexes}
 use Rattle.tables.proofs.RingOfThree.{three-chosen}
 use Rattle.tables.proofs.RingReplaced.{way-there}
-use Rattle.tables.proofs.FlippedBack.{back-passes, back-closed, back-three, back-table, back-way}
+use Rattle.tables.proofs.FlippedBack.{back-passes, back-closed, back-three, back-one, back-table, back-way}
 use Rattle.accepted.proofs.AcceptedBytes.{patch-is}
 use Rattle.accepted.proofs.AcceptedCalls.{flips-facing, flip23-accepted, flip32-accepted, in-order, edge-swap}
 use Rattle.demands.specs.Kernels.{ours}
@@ -80,25 +81,31 @@ module _ (block out other : List ℕ) (x y z : ℕ) (done : flipAnswer block out
     three : m site ≡ 3
     three = rw fields-between (back-three patch face f rule (flipped .rule) no-row)
 
-    module _ (one-region : (s t : Row) → List·Memᴰ s (pair .removed) → List·Memᴰ t (pair .removed) → s .region ≡ t .region) where
-      the-way : RingWay site (cut side side)
-      the-way = rw fields-between (back-way patch face f rule (flipped .rule) no-row one-region)
+    -- its three rows have the region of the two
+    unmixed : mixed (site .removed) ≡ false
+    unmixed = rw fields-between (not-mixed _ (back-one patch face f rule (flipped .rule) no-row))
 
-      -- answer 0
-      back-answer : flipAnswer between other ((pair .a) ∷ (pair .b) ∷ []) ≡ 0
-      unfolding flip32Tests firstRefusal
-      back-answer =
-          flip32-left between other (pair .a) (pair .b) sound closed size
-          ∙ rw (eq-eqb (m site) 3 three, way-there site (omega (arith, three)) (cut side side) the-way)
+    one : OneRegion (pair .removed)
+    one = one-region (pair .removed) (flipped .one-region)
 
-      -- and the same tetrahedra
-      back-rows : SameTetrahedra (fieldsOf (flipBytes between other ((pair .a) ∷ (pair .b) ∷ [])) .rows) (patch .rows)
-      unfolding tableAfter siteOf
-      back-rows =
-          let made = flip32-accepted between other (pair .a) (pair .b) back-answer in
-          let only = three-chosen site (sound-site between (pair .a) (pair .b) sound) three (cut side side) the-way in
-          subst (λ rows. SameTetrahedra rows (patch .rows)) (sym (made .rows ∙ ap (tableAfter site) only))
-          (rw fields-between (back-table patch face f rule (flipped .rule) no-row one-region))
+    the-way : RingWay site (cut side side)
+    the-way = rw fields-between (back-way patch face f rule (flipped .rule) no-row one)
+
+    -- answer 0
+    back-answer : flipAnswer between other ((pair .a) ∷ (pair .b) ∷ []) ≡ 0
+    unfolding flip32Tests firstRefusal
+    back-answer =
+        flip32-left between other (pair .a) (pair .b) sound closed size
+        ∙ rw (eq-eqb (m site) 3 three, unmixed, way-there site (omega (arith, three)) (cut side side) the-way)
+
+    -- and the same tetrahedra
+    back-rows : SameTetrahedra (fieldsOf (flipBytes between other ((pair .a) ∷ (pair .b) ∷ [])) .rows) (patch .rows)
+    unfolding tableAfter siteOf
+    back-rows =
+        let made = flip32-accepted between other (pair .a) (pair .b) back-answer in
+        let only = three-chosen site (sound-site between (pair .a) (pair .b) sound) three (cut side side) the-way in
+        subst (λ rows. SameTetrahedra rows (patch .rows)) (sym (made .rows ∙ ap (tableAfter site) only))
+        (rw fields-between (back-table patch face f rule (flipped .rule) no-row one))
 
 -- ---- the apexes by words, in either order
 
@@ -123,25 +130,18 @@ module _ (block out other : List ℕ) (x y z a b : ℕ) (given : Flipped ours bl
   none-held : T (not (any (holdsEdge (its .a) (its .b)) (fieldsOf block .rows)))
   none-held = rw (by-words (λ m n. any (holdsEdge m n) (fieldsOf block .rows)) (edge-either (fieldsOf block .rows))) (given .none-held)
 
-  one-region : (s t : Row) → List·Memᴰ s (its .removed) → List·Memᴰ t (its .removed) → s .region ≡ t .region
-  unfolding pairOf
-  one-region s t k i =
-      let (s-in, s-held) = those-e (holdsFace (x ∷ y ∷ z ∷ [])) (fieldsOf block .rows) k in
-      let (t-in, t-held) = those-e (holdsFace (x ∷ y ∷ z ∷ [])) (fieldsOf block .rows) i in
-      given .one-region s t s-in t-in s-held t-held
-
   given-answer : flipAnswer (flipBytes block out (x ∷ y ∷ z ∷ [])) other (a ∷ b ∷ []) ≡ 0
   given-answer =
       let between = flipBytes block out (x ∷ y ∷ z ∷ []) in
       sym (by-words (λ m n. flipAnswer between other (m ∷ n ∷ [])) (ends-answer-swap between other))
-      ∙ back-answer block out other x y z was-done (given .right-length) none-held one-region
+      ∙ back-answer block out other x y z was-done (given .right-length) none-held
 
   given-rows : SameTetrahedra (fieldsOf (flipBytes (flipBytes block out (x ∷ y ∷ z ∷ [])) other (a ∷ b ∷ [])) .rows) (fieldsOf block .rows)
   given-rows =
       let between = flipBytes block out (x ∷ y ∷ z ∷ []) in
       subst (λ bytes. SameTetrahedra (fieldsOf bytes .rows) (fieldsOf block .rows))
       (by-words (λ m n. flipBytes between other (m ∷ n ∷ [])) (ends-bytes-swap between other))
-      (back-rows block out other x y z was-done (given .right-length) none-held one-region)
+      (back-rows block out other x y z was-done (given .right-length) none-held)
 
 pub brought-back : BroughtBack ours
 unfolding ours

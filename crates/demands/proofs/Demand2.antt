@@ -10,6 +10,7 @@ use lib.ListN.{length, getD}
 use Rattle.lists.specs.Lists.{every}
 use Rattle.lists.proofs.Tests.{neither-is}
 use Rattle.rows.specs.Rows.{holdsEdge, holdsFace}
+use Rattle.rows.proofs.RegionsOfRows.{one-region}
 use Rattle.layout.specs.Layout.{blockBytes, bodyBytes, maxRows, fieldsOf}
 use Rattle.answers.specs.declared.Answer.{Answer}
 use Rattle.answers.specs.declared.Answer.the-variants.{Done as Fine}
@@ -93,6 +94,7 @@ module _ (block out : List ℕ) (e f : ℕ) where
           round = subst (λ vs. Round rows (min e f) (max e f) true vs) ring
               (subst (λ c. Round rows (min e f) (max e f) c (its .ring)) (r .closed) (sound-round block e f (r .sound)));
         };
+        one-region = one-region (its .removed) (r .one-region);
         accepted = subst (Accepted block (flipBytes block out (e ∷ f ∷ [])) (holdsEdge (min e f) (max e f)))
             (ap (newRows its 1) only ∙ across its u v w ring) (flip32-accepted block out e f h);
       }
@@ -121,6 +123,7 @@ flip23-done block out x y z h =
         faced = faced;
         smaller = f .less;
         read = read;
+        one-region = one-region (pair .removed) (r .one-region);
         room = omega (arith, one-more (fieldsOf block) face (two-apexes (fieldsOf block) x y z (pair .a) (pair .b) (right .body .rule) apexes), r .room);
       };
       accepted = subst (Accepted block (flipBytes block out face) (holdsFace face))

@@ -13,6 +13,7 @@ use Rattle.lists.proofs.Lists.{every-at, every-i}
 use Rattle.quality.specs.Quality.{worse}
 use Rattle.quality.proofs.QualityOrder.{_⊑_, at-most-self, at-most-trans}
 use Rattle.rows.specs.RowMeasure.{rowQuality}
+use Rattle.rows.proofs.RegionsOfRows.{not-mixed}
 use Rattle.layout.specs.Layout.{Patch, fieldsOf}
 use Rattle.answers.specs.Answers.{Tests, firstRefusal}
 use Rattle.answers.proofs.ByNumber.{testOf, before}
@@ -100,6 +101,7 @@ module _ (block out : List ℕ) (e f : ℕ) (closed : Bool) (vs : List ℕ) (giv
       rw (
         length-right block out e f closed vs (given .ringed),
         ringed-flat block out e f closed vs (given .ringed) (given .flat),
+        not-mixed (its .removed) (given .one-region),
         ringed-room block out e f closed vs (given .ringed) (given .flat) (given .room),
         not-15,
       )

@@ -1,4 +1,5 @@
--- An edge whose tetrahedra form one ring, or one chain: the kernel's edge in its patch is that one, and 9 to 13, 19 and 14 are passed over.
+-- An edge whose tetrahedra form one ring, or one chain: the kernel's edge in its patch is that one, and 9 to 13, 19, 20 and 14 are passed
+-- over.
 use Prim.Native.Nat.{ℕ, _+_, _-_, _≤_, _<_, min, max}
 use mathlib.Core.Bool.{Bool, true, false, cond, not, _&&_}
 use mathlib.Core.List.{List, [], _∷_}
@@ -9,6 +10,7 @@ use lib.Dec.{T}
 use lib.ListN.{length, length-map}
 use Rattle.lists.specs.Lists.{every, any, has, different}
 use Rattle.lists.proofs.Tests.{yes-is}
+use Rattle.rows.proofs.RegionsOfRows.{not-mixed}
 use Rattle.layout.specs.Layout.{Patch, maxRows, fieldsOf}
 use Rattle.block.specs.Holding.{RightBlock}
 use Rattle.answers.specs.Answers.{Tests, firstRefusal}
@@ -27,7 +29,7 @@ use Rattle.tables.proofs.RowsAndLinks.{round-ends, as-many}
 use Rattle.tables.proofs.RoundByWords.{closed-is, ring-is, whole-is}
 use Rattle.accepted.proofs.AcceptedCalls.{rows-after}
 use Rattle.demands.specs.Kernels.{ours}
-use Rattle.demands.specs.Premises.{edgeAt, Ringed, FlatChain, HasRoom}
+use Rattle.demands.specs.Premises.{edgeAt, Ringed, FlatChain, OneMaterial, HasRoom}
 use Rattle.demands.specs.Words.{Passes}
 use Rattle.answers.proofs.ToldByNumber.{past, goes-past}
 use Rattle.demands.proofs.Demand1.{numbered}
@@ -98,7 +100,7 @@ one-round block e f right c d vs ws p some-p q some-q =
     let same = sym (site-is block e f right c vs p some-p) ∙ site-is block e f right d ws q some-q in
     (ap (λ (site : Site). site .closed) same, ap (λ (site : Site). site .ring) same)
 
--- ---- none of 9 to 14 and 19
+-- ---- none of 9 to 14, 19 and 20
 
 module _ (block out : List ℕ) (e f : ℕ) (closed : Bool) (vs : List ℕ) (given : Ringed block out e f closed vs) where
   abbrev ringed : Site
@@ -120,7 +122,7 @@ module _ (block out : List ℕ) (e f : ℕ) (closed : Bool) (vs : List ℕ) (giv
   abbrev pub tests : Tests
   tests = removalTests ringed
 
-  -- 13 to 16 and 19 are left
+  -- 13 to 16, 19 and 20 are left
   pub left : removeAnswer block out e f ≡ firstRefusal tests
   left =
       remove-left block out e f ringed-sound (given .right-length)
@@ -129,7 +131,7 @@ module _ (block out : List ℕ) (e f : ℕ) (closed : Bool) (vs : List ℕ) (giv
   pub length-right : lengthWrong ringed ≡ false
   length-right = length-passes ringed (given .from-three) (given .to-ten)
 
-  passes-13 : T (has (0 ∷ 19 ∷ 14 ∷ 15 ∷ 16 ∷ []) (removeAnswer block out e f))
+  passes-13 : T (has (0 ∷ 19 ∷ 20 ∷ 14 ∷ 15 ∷ 16 ∷ []) (removeAnswer block out e f))
   unfolding removalTests before past testOf firstRefusal every
   passes-13 = rw (left ∙ goes-past 13 tests tt refl length-right) (on-list (past 13 tests))
 
@@ -146,13 +148,13 @@ module _ (block out : List ℕ) (e f : ℕ) (closed : Bool) (vs : List ℕ) (giv
         go true h = refl
         go false h = rw (h refl)
 
-    passes-19 : T (has (0 ∷ 14 ∷ 15 ∷ 16 ∷ []) (removeAnswer block out e f))
+    passes-19 : T (has (0 ∷ 20 ∷ 14 ∷ 15 ∷ 16 ∷ []) (removeAnswer block out e f))
     unfolding removalTests past testOf every
     passes-19 = rw (left ∙ goes-past 19 tests tt front-19 ringed-flat) (on-list (past 19 tests))
 
-    pub front-14 : firstRefusal (before 14 tests) ≡ 0
+    pub front-20 : firstRefusal (before 20 tests) ≡ 0
     unfolding removalTests before firstRefusal
-    front-14 = rw (length-right, ringed-flat)
+    front-20 = rw (length-right, ringed-flat)
 
     -- the rows afterwards
     pub after-is : rowsAfter ringed ≡ length (fieldsOf block .rows) + length vs - cond closed 4 3
@@ -160,22 +162,33 @@ module _ (block out : List ℕ) (e f : ℕ) (closed : Bool) (vs : List ℕ) (giv
         subst (λ (s : Site). 3 ≤ m s → rowsAfter s ≡ length (fieldsOf block .rows) + m s - cond (s .closed) 4 3) sited
         (rows-after block e f ringed-sound) (given .from-three)
 
-    module _ (room : HasRoom block closed vs) where
-      pub ringed-room : noRoom ringed ≡ false
-      ringed-room = le-ltb maxRows (rowsAfter ringed) (omega (arith, after-is))
+    pub ringed-room : HasRoom block closed vs → noRoom ringed ≡ false
+    ringed-room room = le-ltb maxRows (rowsAfter ringed) (omega (arith, after-is))
 
-      passes-14 : T (has (0 ∷ 15 ∷ 16 ∷ []) (removeAnswer block out e f))
+    module _ (one : OneMaterial (fieldsOf block) e f) where
+      passes-20 : T (has (0 ∷ 14 ∷ 15 ∷ 16 ∷ []) (removeAnswer block out e f))
       unfolding removalTests past testOf every
-      passes-14 = rw (left ∙ goes-past 14 tests tt front-14 ringed-room) (on-list (past 14 tests))
+      passes-20 = rw (left ∙ goes-past 20 tests tt front-20 (not-mixed (ringed .removed) one)) (on-list (past 20 tests))
 
-      pub front-15 : firstRefusal (before 15 tests) ≡ 0
+      pub front-14 : firstRefusal (before 14 tests) ≡ 0
       unfolding removalTests before firstRefusal
-      front-15 = rw (length-right, ringed-flat, ringed-room)
+      front-14 = rw (length-right, ringed-flat, not-mixed (ringed .removed) one)
+
+      module _ (room : HasRoom block closed vs) where
+        passes-14 : T (has (0 ∷ 15 ∷ 16 ∷ []) (removeAnswer block out e f))
+        unfolding removalTests past testOf every
+        passes-14 = rw (left ∙ goes-past 14 tests tt front-14 (ringed-room room)) (on-list (past 14 tests))
+
+        pub front-15 : firstRefusal (before 15 tests) ≡ 0
+        unfolding removalTests before firstRefusal
+        front-15 = rw (length-right, ringed-flat, not-mixed (ringed .removed) one, ringed-room room)
 
 pub passes : Passes ours
 passes = record {
   by-13 = λ block out e f closed vs given. rw (numbered .remove-number block out e f) (passes-13 block out e f closed vs given);
   by-19 = λ block out e f closed vs given flat. rw (numbered .remove-number block out e f) (passes-19 block out e f closed vs given flat);
-  by-14 = λ block out e f closed vs given flat room.
-      rw (numbered .remove-number block out e f) (passes-14 block out e f closed vs given flat room);
+  by-20 = λ block out e f closed vs given flat one.
+      rw (numbered .remove-number block out e f) (passes-20 block out e f closed vs given flat one);
+  by-14 = λ block out e f closed vs given flat one room.
+      rw (numbered .remove-number block out e f) (passes-14 block out e f closed vs given flat one room);
 }

@@ -15,6 +15,8 @@ use Rattle.lists.proofs.Lists.{every-at, any-e}
 use Rattle.lists.proofs.Numbers.{has-e}
 use Rattle.rows.specs.declared.Row.{Row}
 use Rattle.rows.specs.Rows.{numbers, holds, holdsFace}
+use Rattle.rows.specs.Regions.{mixed}
+use Rattle.rows.proofs.RegionsOfRows.{one-region, not-mixed}
 use Rattle.mesh.specs.Mesh.{numbersFit, keepsMeshRule}
 use Rattle.mesh.proofs.MeshRuleStated.{keeps-fits}
 use Rattle.layout.specs.Layout.{Patch, blockBytes, maxRows, fieldsOf}
@@ -30,7 +32,7 @@ use Rattle.tables.proofs.FacingRows.{face-apart}
 use Rattle.tables.proofs.ApexesByWords.{the-rows, one-words, words-one, TwoApexes, face-different, two-apexes, one-more}
 use Rattle.tables.proofs.ThreeRowsByWords.{new-is}
 use Rattle.demands.specs.Kernels.{ours}
-use Rattle.demands.specs.FlipWords.{ThreePoints, Faced, Roomy, Tells23}
+use Rattle.demands.specs.FlipWords.{ThreePoints, Faced, OneMaterialAt, Roomy, Tells23}
 use Rattle.answers.proofs.ToldByNumber.{past, once, told, exactly, unless, goes-past}
 use Rattle.demands.proofs.FrontTests.{rule-15, rule-0, returned}
 
@@ -158,10 +160,10 @@ module _ (block out : List ℕ) (x y z a b : ℕ) (given : Faced block out x y z
   answer-is : flipAnswer block out (x ∷ y ∷ z ∷ []) ≡ firstRefusal theirs
   answer-is = is block out x y z (given .right) (given .right-length)
 
-  -- 9 to 18 are passed
-  front-14 : firstRefusal (before 14 theirs) ≡ 0
+  -- 9 to 11 and 18 are passed
+  front-20 : firstRefusal (before 20 theirs) ≡ 0
   unfolding flip23Tests before firstRefusal
-  front-14 =
+  front-20 =
       let pair = pairOf its list in
       rw (
         points-fit block out x y z (given .right) (given .right-length) its-points,
@@ -169,19 +171,32 @@ module _ (block out : List ℕ) (x y z a b : ℕ) (given : Faced block out x y z
         ne-eqb (pair .a) (pair .b) (λ e. two .apart (omega (arith, two .low, two .high))),
       )
 
-  tells-14 : (flipAnswer block out (x ∷ y ∷ z ∷ []) ≡ 14) ↔ (maxRows < length (its .rows) + 1)
-  unfolding flip23Tests once testOf every
-  tells-14 =
-      let (to, from) = exactly 14 theirs tt tt tt answer-is front-14 in (
-        λ h. omega (arith, one-more its list two, ltb-true maxRows (length table) (to h)),
-        λ h. from (lt-ltb maxRows (length table) (omega (arith, one-more its list two))),
-      )
+  tells-20 : (flipAnswer block out (x ∷ y ∷ z ∷ []) ≡ 20) ↔ (OneMaterialAt its x y z → ⊥)
+  unfolding flip23Tests pairOf once testOf every
+  tells-20 =
+      let gone = those (holdsFace list) (its .rows) in
+      unless (mixed gone) (exactly 20 theirs tt tt tt answer-is front-20) (not-mixed gone) (one-region gone)
 
-  left-15 : length (its .rows) + 1 ≤ maxRows
-      → flipAnswer block out (x ∷ y ∷ z ∷ []) ≡ firstRefusal ((15, not (keepsMeshRule (length (its .points)) table)) ∷ [])
-  unfolding flip23Tests past testOf every
-  left-15 room =
-      answer-is ∙ goes-past 14 theirs tt front-14 (le-ltb maxRows (length table) (omega (arith, one-more its list two)))
+  module _ (one : OneMaterialAt its x y z) where
+    left-14 : firstRefusal theirs ≡ firstRefusal (past 20 theirs)
+    unfolding flip23Tests pairOf testOf every
+    left-14 = goes-past 20 theirs tt front-20 (not-mixed (those (holdsFace list) (its .rows)) one)
+
+    tells-14 : (flipAnswer block out (x ∷ y ∷ z ∷ []) ≡ 14) ↔ (maxRows < length (its .rows) + 1)
+    unfolding flip23Tests past once before testOf firstRefusal every
+    tells-14 =
+        let (to, from) = exactly 14 (past 20 theirs) tt tt tt (answer-is ∙ left-14) refl in (
+          λ h. omega (arith, one-more its list two, ltb-true maxRows (length table) (to h)),
+          λ h. from (lt-ltb maxRows (length table) (omega (arith, one-more its list two))),
+        )
+
+    left-15 : length (its .rows) + 1 ≤ maxRows
+        → flipAnswer block out (x ∷ y ∷ z ∷ []) ≡ firstRefusal ((15, not (keepsMeshRule (length (its .points)) table)) ∷ [])
+    unfolding flip23Tests past before testOf firstRefusal every
+    left-15 room =
+        answer-is
+        ∙ left-14
+        ∙ goes-past 14 (past 20 theirs) tt refl (le-ltb maxRows (length table) (omega (arith, one-more its list two)))
 
 module _ (block out : List ℕ) (x y z a b u v w : ℕ) (given : Roomy block out x y z a b u v w) where
   abbrev rule-kept : Bool
@@ -190,7 +205,7 @@ module _ (block out : List ℕ) (x y z a b u v w : ℕ) (given : Roomy block out
   left-rule : flipAnswer block out (x ∷ y ∷ z ∷ []) ≡ firstRefusal ((15, not rule-kept) ∷ [])
   unfolding patchAfter23 pairOf
   left-rule =
-      left-15 block out x y z a b (given .faced) (given .room)
+      left-15 block out x y z a b (given .faced) (given .one-region) (given .room)
       ∙ ap (λ new.
       let table = those (λ row. not (holdsFace (x ∷ y ∷ z ∷ []) row)) (fieldsOf block .rows) ++ new in
       firstRefusal ((15, not (keepsMeshRule (length (fieldsOf block .points)) table)) ∷ []))
@@ -209,7 +224,8 @@ tells-23 = record {
   ten = λ block out x y z right size three. returned (tells-10 block out x y z right size three);
   eleven = λ block out x y z right size three. returned (tells-11 block out x y z right size three);
   eighteen = λ block out x y z right size three. returned (tells-18 block out x y z right size three);
-  fourteen = λ block out x y z a b given. returned (tells-14 block out x y z a b given);
+  twenty = λ block out x y z a b given. returned (tells-20 block out x y z a b given);
+  fourteen = λ block out x y z a b given one. returned (tells-14 block out x y z a b given one);
   fifteen = λ block out x y z a b u v w given. returned (tells-15 block out x y z a b u v w given);
   done = λ block out x y z a b u v w given. returned (tells-0 block out x y z a b u v w given);
 }

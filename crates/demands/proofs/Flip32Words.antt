@@ -1,5 +1,5 @@
 -- The refusals of a flip with two numbers are given exactly when their words are true of the block: 9, 10 and 12 as of every call on an edge, 11 of every
--- open case; and a ring of three has one way to be triangulated.
+-- open case, 20 as of a removal; and a ring of three has one way to be triangulated.
 use Prim.Native.Nat.{ℕ, min, max}
 use mathlib.Core.Bool.{Bool, true, false, not, _&&_, _||_}
 use mathlib.Core.List.{List, [], _∷_, _++_, flatMap}
@@ -7,18 +7,19 @@ use mathlib.Core.Logic.{_↔_}
 use mathlib.Core.Path.{_≡_, refl, sym, ap, _∙_, subst}
 use native.Mathlib.Omega.{arith}
 use borrow.Author.Tests.{eqb-false, ne-eqb, not-true, not-false}
-use lib.Dec.{T, eqb, T-not}
+use lib.Dec.{T, T-not}
 use lib.ListN.{length}
 use Rattle.lists.specs.Lists.{every, any, numbersFrom}
 use Rattle.lists.proofs.Tests.{and-true, or-false}
 use Rattle.rows.specs.declared.Row.{Row}
 use Rattle.mesh.specs.Mesh.{usesEitherWay, keepsMeshRule}
 use Rattle.rows.specs.Rows.{holdsEdge}
+use Rattle.rows.specs.Regions.{mixed}
+use Rattle.rows.proofs.RegionsOfRows.{one-region, not-mixed}
 use Rattle.layout.specs.Layout.{Patch, fieldsOf, blockBytes}
 use Rattle.answers.specs.Answers.{Tests, firstRefusal}
 use Rattle.body.specs.Body.{bodyTests}
 use Rattle.block.specs.Holding.{RightBlock}
-use Rattle.answers.proofs.Refusals.{goes-on}
 use Rattle.answers.proofs.ByNumber.{testOf, before, unlike, stops}
 use Rattle.ring.specs.Ring.{Site, siteOf, m, minRing, ringsAlone, linkOpen, edgeTests, whole}
 use Rattle.ring.specs.SoundRing.{SoundRing}
@@ -32,13 +33,13 @@ use Rattle.calls.proofs.SoundEdges.{sound-site}
 use Rattle.tables.specs.RoundAnEdge.{Round, AllClose, TwoCircles}
 use Rattle.tables.specs.FlipRows.{off, after32}
 use Rattle.tables.proofs.CirclesByWords.{close-words, words-close}
-use Rattle.demands.specs.Premises.{TwoPoints, Held, edgeAt}
+use Rattle.demands.specs.Premises.{TwoPoints, Held, edgeAt, OneMaterial}
 use Rattle.demands.specs.Kernels.{ours}
 use Rattle.demands.specs.FlipWords.{NotThree, RingOfThree, Tells32}
 use Rattle.demands.proofs.EdgeFound.{site-is, site-sound}
 use Rattle.demands.proofs.PremisesMet.{sound-round}
 use Rattle.demands.proofs.RingWords.{pair, tells-12}
-use Rattle.answers.proofs.ToldByNumber.{once, told, exactly, unless}
+use Rattle.answers.proofs.ToldByNumber.{past, once, told, exactly, unless, goes-past}
 use Rattle.demands.proofs.FrontTests.{tells-9, tells-10, held-left, front-11, rule-15, rule-0, returned}
 
 -- ---- 11, 12 and 13
@@ -107,7 +108,7 @@ module _ (block out : List ℕ) (e f : ℕ) (held : Held block out e f) where
         ∙ stops 13 (flip32Tests its) tt refl (ap not (ne-eqb (m its) minRing (λ i. other (sym length-is ∙ i)))),
   )
 
--- ---- 15, and 0
+-- ---- 20, 15, and 0
 
 module _ (block out : List ℕ) (e f u v w : ℕ) (given : RingOfThree block out e f u v w) where
   abbrev rows : List Row
@@ -133,13 +134,16 @@ module _ (block out : List ℕ) (e f u v w : ℕ) (given : RingOfThree block out
   unfolding noWay any admissible tableAfter newRows twoRows triangles span waysWithin flatMap numbersFrom
   way-is = ap not (or-false (keepsMeshRule points after))
 
-  left-15 : flipAnswer block out (e ∷ f ∷ []) ≡ firstRefusal ((15, not (keepsMeshRule points after)) ∷ [])
-  unfolding flip32Tests
-  left-15 =
+  left-20 : flipAnswer block out (e ∷ f ∷ []) ≡ firstRefusal (flip32Tests ringed)
+  left-20 =
       flip32-left block out e f sound (ap (λ (s : Site). s .closed) sited) (given .right-length)
       ∙ ap (λ (s : Site). firstRefusal (flip32Tests s)) sited
-      ∙ goes-on 13 (not (eqb (m ringed) minRing)) _ refl
-      ∙ ap (λ p. firstRefusal ((15, p) ∷ [])) way-is
+
+  flip-tells-20 : (flipAnswer block out (e ∷ f ∷ []) ≡ 20) ↔ (OneMaterial (fieldsOf block) e f → ⊥)
+  unfolding flip32Tests once before testOf firstRefusal every
+  flip-tells-20 =
+      unless (mixed (ringed .removed)) (exactly 20 (flip32Tests ringed) tt tt tt left-20 refl) (not-mixed (ringed .removed))
+      (one-region (ringed .removed))
 
   -- it keeps the mesh rule where no other row has the triangle for a face
   keeps-is : keepsMeshRule points after ≡ not (any (usesEitherWay (u, v, w)) (off rows (min e f) (max e f)))
@@ -151,22 +155,30 @@ module _ (block out : List ℕ) (e f u v w : ℕ) (given : RingOfThree block out
       ∙ and-true (not (used || false))
       ∙ ap not (or-false used)
 
-  flip-tells-15 : (flipAnswer block out (e ∷ f ∷ []) ≡ 15) ↔ (T (keepsMeshRule points after) → ⊥)
-  flip-tells-15 = rule-15 (flipAnswer block out (e ∷ f ∷ [])) (keepsMeshRule points after) left-15
+  module _ (one : OneMaterial (fieldsOf block) e f) where
+    left-15 : flipAnswer block out (e ∷ f ∷ []) ≡ firstRefusal ((15, not (keepsMeshRule points after)) ∷ [])
+    unfolding flip32Tests before past testOf firstRefusal every
+    left-15 =
+        left-20
+        ∙ goes-past 20 (flip32Tests ringed) tt refl (not-mixed (ringed .removed) one)
+        ∙ ap (λ p. firstRefusal ((15, p) ∷ [])) way-is
 
-  flip-tells-0 : (flipAnswer block out (e ∷ f ∷ []) ≡ 0) ↔ T (keepsMeshRule points after)
-  flip-tells-0 = rule-0 (flipAnswer block out (e ∷ f ∷ [])) (keepsMeshRule points after) left-15
+    flip-tells-15 : (flipAnswer block out (e ∷ f ∷ []) ≡ 15) ↔ (T (keepsMeshRule points after) → ⊥)
+    flip-tells-15 = rule-15 (flipAnswer block out (e ∷ f ∷ [])) (keepsMeshRule points after) left-15
 
-  by-triangle : (flipAnswer block out (e ∷ f ∷ []) ≡ 15) ↔ T (any (usesEitherWay (u, v, w)) (off rows (min e f) (max e f)))
-  by-triangle =
-      let used = any (usesEitherWay (u, v, w)) (off rows (min e f) (max e f)) in (
-        λ h. twice used (λ k. flip-tells-15 .0 h (subst T (sym keeps-is) k)),
-        λ k. flip-tells-15 .1 (λ keeps. T-not used (subst T keeps-is keeps) k),
-      )
-    where
-      twice : (b : Bool) → (T (not b) → ⊥) → T b
-      twice true h = tt
-      twice false h = absurd (h tt)
+    flip-tells-0 : (flipAnswer block out (e ∷ f ∷ []) ≡ 0) ↔ T (keepsMeshRule points after)
+    flip-tells-0 = rule-0 (flipAnswer block out (e ∷ f ∷ [])) (keepsMeshRule points after) left-15
+
+    by-triangle : (flipAnswer block out (e ∷ f ∷ []) ≡ 15) ↔ T (any (usesEitherWay (u, v, w)) (off rows (min e f) (max e f)))
+    by-triangle =
+        let used = any (usesEitherWay (u, v, w)) (off rows (min e f) (max e f)) in (
+          λ h. twice used (λ k. flip-tells-15 .0 h (subst T (sym keeps-is) k)),
+          λ k. flip-tells-15 .1 (λ keeps. T-not used (subst T keeps-is keeps) k),
+        )
+      where
+        twice : (b : Bool) → (T (not b) → ⊥) → T b
+        twice true h = tt
+        twice false h = absurd (h tt)
 
 -- ---- the record
 
@@ -191,7 +203,8 @@ tells-32 = record {
   eleven = λ block out e f held. returned (tells-11 block out e f held);
   twelve = λ block out e f held. returned (flip-tells-12 block out e f held);
   thirteen = λ block out e f held. returned (tells-13 block out e f held);
-  fifteen = λ block out e f u v w given. returned (flip-tells-15 block out e f u v w given);
-  fifteen-by-triangle = λ block out e f u v w given. returned (by-triangle block out e f u v w given);
-  done = λ block out e f u v w given. returned (flip-tells-0 block out e f u v w given);
+  twenty = λ block out e f u v w given. returned (flip-tells-20 block out e f u v w given);
+  fifteen = λ block out e f u v w given one. returned (flip-tells-15 block out e f u v w given one);
+  fifteen-by-triangle = λ block out e f u v w given one. returned (by-triangle block out e f u v w given one);
+  done = λ block out e f u v w given one. returned (flip-tells-0 block out e f u v w given one);
 }

@@ -11,6 +11,8 @@ use Rattle.lists.proofs.Counts.{some-counted}
 use Rattle.volume.specs.Volume.{D}
 use Rattle.rows.specs.Rows.{holdsEdge}
 use Rattle.rows.specs.RowMeasure.{place}
+use Rattle.rows.specs.Regions.{mixed}
+use Rattle.rows.proofs.RegionsOfRows.{one-region}
 use Rattle.layout.specs.Layout.{blockBytes, maxRows, fieldsOf}
 use Rattle.block.proofs.RightBlocks.{right-block}
 use Rattle.ring.specs.Ring.{Site, siteOf, m, flat, lengthWrong, notFlat}
@@ -65,13 +67,13 @@ pub flat-chain : (site : Site) → notFlat site ≡ false → site .closed ≡ f
 flat-chain site h open-one =
     flat-zero site (ap (λ c. c || flat site) (sym open-one) ∙ not-false (site .closed || flat site) h)
 
--- so with 13, 19 and 14 passed, and with a tree that keeps the mesh rule, the third demand's premises are met
+-- so with 13, 19, 20 and 14 passed, and with a tree that keeps the mesh rule, the third demand's premises are met
 pub premises-by : (block out : List ℕ) (e f : ℕ) → Sound block e f → length out ≡ blockBytes
     → let site = siteOf (fieldsOf block) e f in
-    lengthWrong site ≡ false → notFlat site ≡ false → noRoom site ≡ false → (t : Tri) → RingWay site t
+    lengthWrong site ≡ false → notFlat site ≡ false → mixed (site .removed) ≡ false → noRoom site ≡ false → (t : Tri) → RingWay site t
     → Premises block out e f (site .closed) (site .ring)
 unfolding siteOf
-premises-by block out e f sound size length-right flat room t way =
+premises-by block out e f sound size length-right flat unmixed room t way =
     let site = siteOf (fieldsOf block) e f in
     let (low, high) = length-fits site length-right in
     record {
@@ -84,6 +86,7 @@ premises-by block out e f sound size length-right flat room t way =
         to-ten = high;
       };
       flat = flat-chain site flat;
+      one-region = one-region (site .removed) unmixed;
       room = omega (arith, rows-after block e f sound low, ltb-false maxRows (rowsAfter site) room);
       some-way = (triangles 1 t, tree-way site (omega (arith, low)) t way);
     }

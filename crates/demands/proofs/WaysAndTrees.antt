@@ -20,13 +20,14 @@ use Rattle.rows.specs.declared.Row.{Row}
 use Rattle.rows.specs.RowMeasure.{rowD, rowQuality, totalD}
 use Rattle.mesh.specs.Mesh.{keepsMeshRule}
 use Rattle.rows.specs.Tetrahedra.{rearranged, SameTetrahedra}
+use Rattle.rows.proofs.EvenMeasure.{total-append}
 use Rattle.mesh.proofs.TablesAlike.{same-keeps, same-append}
 use Rattle.ring.specs.Ring.{Site, m}
 use Rattle.triangulation.specs.Triangulation.{Tri, span, Triangle, triangles, twoRows, newRows, tableAfter}
 use Rattle.triangulation.specs.Admissible.{admissible}
 use Rattle.triangulation.specs.Best.{worstOfWay}
 use Rattle.triangulation.proofs.Trees.{aRow, bRow}
-use Rattle.triangulation.proofs.TotalOfPiece.{total-append, twoD}
+use Rattle.triangulation.proofs.TotalOfPiece.{twoD}
 use Rattle.triangulation.proofs.WholeRing.{RingWay}
 use Rattle.triangulation.proofs.WorstOfWays.{Over, rows-over, over-rows, way-fraction}
 use Rattle.polygon.specs.Polygon.{cuts, Alike}

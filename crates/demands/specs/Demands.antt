@@ -30,7 +30,7 @@ use Rattle.tables.specs.FlipRows.{new32, new23}
 use Rattle.accepted.specs.CallNumbers.{openNumbers, sealNumbers, removeNumbers, flipNumbers}
 use Rattle.accepted.specs.Accepted.{Accepted}
 use Rattle.demands.specs.Kernels.{Kernel, opens, summarises, shows, seals, removes, flips, asPatch}
-use Rattle.demands.specs.Premises.{edgeAt, Premises}
+use Rattle.demands.specs.Premises.{edgeAt, OneMaterial, Premises}
 use Rattle.demands.specs.FlipWords.{RingOfThree, Roomy}
 use Rattle.demands.specs.Summaries.{Summarises}
 use Rattle.demands.specs.TriangleSets.{tableBy, Way, NoneBetter, AsGoodAsAny}
@@ -71,9 +71,9 @@ pub record Demand1 (k : Kernel) : Type 0 where
 -- A block is read and written by the layout, one the inverse of the other, and opening hands over the fields of a block that is right and of
 -- no other; a right body is sealed, and nothing else. The summary and what is shown of each row are those of the block. A call that is done
 -- leaves a right block: the points and the rows that the edge or the face does not touch are as they were, behind them stand the new rows in
--- their order, and the signed volumes add up to what they did. A removal is done only under the third demand's premises, and returns the
--- page row of both blocks and the ring; a flip is done only with two numbers, of an edge in a closed ring of three, or with three, of a face
--- in two rows with different apexes.
+-- their order, of the region of the rows that went, and the signed volumes add up to what they did, in all and over each region. A removal
+-- is done only under the third demand's premises, and returns the page row of both blocks and the ring; a flip is done only with two
+-- numbers, of an edge in a closed ring of three, or with three, of a face in two rows with different apexes, and in one region.
 
 -- Sealing that is done: a right body of 508 bytes and an output block of 512, which is a right block with the body's fields afterwards.
 pub record Sealed (body out output : List ℕ) : Type 0 where
@@ -95,18 +95,19 @@ pub record RemovalDone (block out : List ℕ) (e f : ℕ) (gives : Removed) (out
       let after = worstOfPatch (fieldsOf output) in
       gives ≡ record { removal = Done (pageRow (shown before) (shown after)); ring = ringWith vs }
 
--- A 3-2 flip that is done: its edge has a closed ring u, v, w in a right block, and the new rows are (a,u,v,w) and (u,v,w,b).
+-- A 3-2 flip that is done: its edge has a closed ring u, v, w of one region in a right block, and the new rows are (a,u,v,w) and (u,v,w,b).
 pub record Flip32Done (block out : List ℕ) (e f : ℕ) (output : List ℕ) : Type 0 where
   pub u : ℕ
   pub v : ℕ
   pub w : ℕ
   pub ring : RingOfThree block out e f u v w
+  pub one-region : OneMaterial (fieldsOf block) e f
   pub accepted : let a = min e f in
       let b = max e f in
       Accepted block output (holdsEdge a b) (new32 (fieldsOf block .rows) a b u v w)
 
--- A 2-3 flip that is done: in a right block with room for one row more, x, y, z is a face of two rows with the apexes a and b; a's row reads
--- (a,u,v,w), and the new rows are (a,b,u,v), (a,b,v,w) and (a,b,w,u).
+-- A 2-3 flip that is done: in a right block with room for one row more, x, y, z is a face of two rows of one region with the apexes a and b;
+-- a's row reads (a,u,v,w), and the new rows are (a,b,u,v), (a,b,v,w) and (a,b,w,u).
 pub record Flip23Done (block out : List ℕ) (x y z : ℕ) (output : List ℕ) : Type 0 where
   pub a : ℕ
   pub b : ℕ

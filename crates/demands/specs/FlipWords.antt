@@ -7,16 +7,17 @@ use mathlib.Core.Logic.{_↔_}
 use mathlib.Core.Path.{_≡_}
 use lib.Dec.{T}
 use lib.ListN.{length}
-use Rattle.lists.specs.Lists.{any, different}
+use Rattle.lists.specs.Lists.{any, those, different}
 use Rattle.rows.specs.declared.Row.{Row}
-use Rattle.rows.specs.Rows.{holdsEdge}
+use Rattle.rows.specs.Rows.{holdsEdge, holdsFace}
+use Rattle.rows.specs.Regions.{OneRegion}
 use Rattle.mesh.specs.Mesh.{usesEitherWay}
-use Rattle.layout.specs.Layout.{blockBytes, maxRows, fieldsOf}
+use Rattle.layout.specs.Layout.{Patch, blockBytes, maxRows, fieldsOf}
 use Rattle.block.specs.Holding.{RightBlock}
 use Rattle.ring.specs.Ring.{minRing}
 use Rattle.tables.specs.RoundAnEdge.{Round, AllClose, TwoCircles}
 use Rattle.tables.specs.FlipRows.{KeepsRule, off, after32, facing, OneApex, Apexes, ReadFrom, after23}
-use Rattle.demands.specs.Premises.{TwoPoints, Held}
+use Rattle.demands.specs.Premises.{TwoPoints, Held, OneMaterial}
 use Rattle.demands.specs.Kernels.{Kernel, opens, flips}
 
 -- ---- how many numbers
@@ -40,8 +41,8 @@ pub record RingOfThree (block out : List ℕ) (e f u v w : ℕ) : Type 0 where
   pub right-length : length out ≡ blockBytes
   pub round : Round (fieldsOf block .rows) (min e f) (max e f) true (u ∷ v ∷ w ∷ [])
 
--- 9 and 10; 11, 12 and 13, where some row holds the edge; in a ring of three, 15 where the table afterwards would break the mesh rule, which
--- is where one of the other rows has the triangle for a face; and otherwise 0.
+-- 9 and 10; 11, 12 and 13, where some row holds the edge; in a ring of three, 20 where its rows have more than one region, and in one region
+-- 15 where the table afterwards would break the mesh rule, which is where one of the other rows has the triangle for a face; and otherwise 0.
 pub record Tells32 (k : Kernel) : Type 0 where
   pub nine : (block out : List ℕ) (e f : ℕ) → RightBlock block → length out ≡ blockBytes
       → (flips k block out (e ∷ f ∷ []) ≡ 9) ↔ (TwoPoints block e f → ⊥)
@@ -54,12 +55,14 @@ pub record Tells32 (k : Kernel) : Type 0 where
       (flips k block out (e ∷ f ∷ []) ≡ 12) ↔ (AllClose rows (min e f) (max e f) × TwoCircles rows (min e f) (max e f))
   pub thirteen : (block out : List ℕ) (e f : ℕ) → Held block out e f
       → (flips k block out (e ∷ f ∷ []) ≡ 13) ↔ NotThree (fieldsOf block .rows) (min e f) (max e f)
-  pub fifteen : (block out : List ℕ) (e f u v w : ℕ) → RingOfThree block out e f u v w
+  pub twenty : (block out : List ℕ) (e f u v w : ℕ) → RingOfThree block out e f u v w
+      → (flips k block out (e ∷ f ∷ []) ≡ 20) ↔ (OneMaterial (fieldsOf block) e f → ⊥)
+  pub fifteen : (block out : List ℕ) (e f u v w : ℕ) → RingOfThree block out e f u v w → OneMaterial (fieldsOf block) e f
       → let patch = fieldsOf block in
       (flips k block out (e ∷ f ∷ []) ≡ 15) ↔ (KeepsRule patch (after32 (patch .rows) (min e f) (max e f) u v w) → ⊥)
-  pub fifteen-by-triangle : (block out : List ℕ) (e f u v w : ℕ) → RingOfThree block out e f u v w
+  pub fifteen-by-triangle : (block out : List ℕ) (e f u v w : ℕ) → RingOfThree block out e f u v w → OneMaterial (fieldsOf block) e f
       → (flips k block out (e ∷ f ∷ []) ≡ 15) ↔ T (any (usesEitherWay (u, v, w)) (off (fieldsOf block .rows) (min e f) (max e f)))
-  pub done : (block out : List ℕ) (e f u v w : ℕ) → RingOfThree block out e f u v w
+  pub done : (block out : List ℕ) (e f u v w : ℕ) → RingOfThree block out e f u v w → OneMaterial (fieldsOf block) e f
       → let patch = fieldsOf block in
       (flips k block out (e ∷ f ∷ []) ≡ 0) ↔ KeepsRule patch (after32 (patch .rows) (min e f) (max e f) u v w)
 
@@ -78,15 +81,20 @@ pub record Faced (block out : List ℕ) (x y z a b : ℕ) : Type 0 where
   pub right-length : length out ≡ blockBytes
   pub apexes : Apexes (fieldsOf block .rows) x y z a b
 
--- Such a face with room for one row more; a is the smaller apex and its row reads (a,u,v,w).
+-- one region: both rows at the face have the same
+abbrev pub OneMaterialAt : Patch → ℕ → ℕ → ℕ → Type 0
+OneMaterialAt patch x y z = OneRegion (those (holdsFace (x ∷ y ∷ z ∷ [])) (patch .rows))
+
+-- Such a face in one region, with room for one row more; a is the smaller apex and its row reads (a,u,v,w).
 pub record Roomy (block out : List ℕ) (x y z a b u v w : ℕ) : Type 0 where
   pub faced : Faced block out x y z a b
   pub smaller : a < b
   pub read : ReadFrom (fieldsOf block .rows) x y z a u v w
+  pub one-region : OneMaterialAt (fieldsOf block) x y z
   pub room : length (fieldsOf block .rows) + 1 ≤ maxRows
 
--- 9; 10, 11 and 18 of three different points; of two rows with different apexes, 14 where one row more is too many, 15 where the table
--- afterwards would break the mesh rule, and otherwise 0.
+-- 9; 10, 11 and 18 of three different points; of two rows with different apexes, 20 where they have different regions, and in one region 14
+-- where one row more is too many, 15 where the table afterwards would break the mesh rule, and otherwise 0.
 pub record Tells23 (k : Kernel) : Type 0 where
   pub nine : (block out : List ℕ) (x y z : ℕ) → RightBlock block → length out ≡ blockBytes
       → (flips k block out (x ∷ y ∷ z ∷ []) ≡ 9) ↔ (ThreePoints block x y z → ⊥)
@@ -96,7 +104,9 @@ pub record Tells23 (k : Kernel) : Type 0 where
       → (flips k block out (x ∷ y ∷ z ∷ []) ≡ 11) ↔ (facing (fieldsOf block .rows) x y z ≡ 1)
   pub eighteen : (block out : List ℕ) (x y z : ℕ) → RightBlock block → length out ≡ blockBytes → ThreePoints block x y z
       → (flips k block out (x ∷ y ∷ z ∷ []) ≡ 18) ↔ ((a : ℕ) × OneApex (fieldsOf block .rows) x y z a)
-  pub fourteen : (block out : List ℕ) (x y z a b : ℕ) → Faced block out x y z a b
+  pub twenty : (block out : List ℕ) (x y z a b : ℕ) → Faced block out x y z a b
+      → (flips k block out (x ∷ y ∷ z ∷ []) ≡ 20) ↔ (OneMaterialAt (fieldsOf block) x y z → ⊥)
+  pub fourteen : (block out : List ℕ) (x y z a b : ℕ) → Faced block out x y z a b → OneMaterialAt (fieldsOf block) x y z
       → (flips k block out (x ∷ y ∷ z ∷ []) ≡ 14) ↔ (maxRows < length (fieldsOf block .rows) + 1)
   pub fifteen : (block out : List ℕ) (x y z a b u v w : ℕ) → Roomy block out x y z a b u v w
       → let patch = fieldsOf block in

@@ -3,32 +3,33 @@
 -- kernel finds them.
 use Prim.Native.Nat.{ℕ, _<_, min, max}
 use mathlib.Core.Bool.{Bool, true, false, not}
-use mathlib.Core.List.{List, [], _∷_, map, List·Memᴰ}
+use mathlib.Core.List.{List, [], _∷_}
 use mathlib.Core.Logic.{_↔_}
 use mathlib.Core.Path.{_≡_}
 use lib.Dec.{T}
 use lib.ListN.{length, take, drop}
 use Rattle.lists.specs.Lists.{any, count}
 use Rattle.rows.specs.declared.Row.{Row}
-use Rattle.rows.specs.Rows.{numbers, holdsEdge, holdsFace}
+use Rattle.rows.specs.Rows.{holdsEdge, holdsFace}
 use Rattle.rows.specs.Tetrahedra.{SameTetrahedra}
 use Rattle.layout.specs.Layout.{blockBytes, fieldsOf}
 use Rattle.block.specs.Holding.{RightBlock}
 use Rattle.tables.specs.FlipRows.{Apexes}
-use Rattle.demands.specs.Premises.{Ringed, FlatChain}
+use Rattle.demands.specs.Premises.{Ringed, FlatChain, OneMaterial}
 use Rattle.demands.specs.Kernels.{Kernel, removes, flips}
 
 -- ---- room
 
 -- A ring of six makes two rows more than go, so a block with more than 58 rows gets 14; a ring of four makes none more, and always has room.
--- A flat chain makes one row more than a ring of its length. For every length it is `Tells .fourteen`, of which these are cases.
+-- A flat chain makes one row more than a ring of its length. All of one region; for every length it is `Tells .fourteen`, of which these are
+-- cases.
 pub record Room (k : Kernel) : Type 0 where
-  pub ring-of-six : (block out : List ℕ) (e f : ℕ) (vs : List ℕ) → Ringed block out e f true vs → length vs ≡ 6
+  pub ring-of-six : (block out : List ℕ) (e f : ℕ) (vs : List ℕ) → Ringed block out e f true vs → OneMaterial (fieldsOf block) e f → length vs ≡ 6
       → (removes k block out e f ≡ 14) ↔ (58 < length (fieldsOf block .rows))
   pub ring-of-four : (block out : List ℕ) (e f : ℕ) (vs : List ℕ) → Ringed block out e f true vs → length vs ≡ 4
       → removes k block out e f ≡ 14 → ⊥
   pub chain-of-four : (block out : List ℕ) (e f : ℕ) (vs : List ℕ) → Ringed block out e f false vs → FlatChain block e f false vs
-      → length vs ≡ 4 → (removes k block out e f ≡ 14) ↔ (59 < length (fieldsOf block .rows))
+      → OneMaterial (fieldsOf block) e f → length vs ≡ 4 → (removes k block out e f ≡ 14) ↔ (59 < length (fieldsOf block .rows))
   pub chain-of-three : (block out : List ℕ) (e f : ℕ) (vs : List ℕ) → Ringed block out e f false vs → FlatChain block e f false vs
       → length vs ≡ 3 → removes k block out e f ≡ 14 → ⊥
 
@@ -55,12 +56,11 @@ pub record SameMesh (block other : List ℕ) : Type 0 where
 abbrev pub staying : (Row → Bool) → List ℕ → ℕ
 staying goes block = count (λ row. not (goes row)) (fieldsOf block .rows)
 
--- The outputs for two blocks: the rows that stayed, which stand first, are the same tetrahedra; behind them each row has the same four
--- numbers in the same order. Only order and arrangement of the rows that stayed, and the region of the others, go by the table.
+-- The outputs for two blocks: the rows that stayed, which stand first, are the same tetrahedra; behind them stand the same rows, in the same
+-- order.
 pub record SameOutput (goes : Row → Bool) (block other output its-output : List ℕ) : Type 0 where
   pub stayed : SameTetrahedra (take (staying goes block) (fieldsOf output .rows)) (take (staying goes other) (fieldsOf its-output .rows))
-  pub behind : map numbers (drop (staying goes block) (fieldsOf output .rows))
-      ≡ map numbers (drop (staying goes other) (fieldsOf its-output .rows))
+  pub behind : drop (staying goes block) (fieldsOf output .rows) ≡ drop (staying goes other) (fieldsOf its-output .rows)
 
 -- the answers of a removal and of a flip are the same, with 0 so is the output as above, and a removal returns the same ring; of a flip the
 -- rows go that hold all of its numbers
@@ -77,19 +77,11 @@ pub record AnyRowOrder (k : Kernel) : Type 0 where
 
 -- ---- 3-2 after 2-3
 
--- the rows that hold the face have one region
-abbrev pub OneRegion : List Row → ℕ → ℕ → ℕ → Type 0
-OneRegion rows x y z =
-    (s t : Row) → List·Memᴰ s rows → List·Memᴰ t rows → T (holdsFace (x ∷ y ∷ z ∷ []) s) → T (holdsFace (x ∷ y ∷ z ∷ []) t)
-    → s .region ≡ t .region
-
--- The premises: the 2-3 flip of x, y, z was done, its two rows had one region, no row joined the apexes, and the 3-2 flip gets an output
--- block of the right length.
+-- The premises: the 2-3 flip of x, y, z was done, no row joined the apexes, and the 3-2 flip gets an output block of the right length.
 pub record Flipped (k : Kernel) (block out other : List ℕ) (x y z a b : ℕ) : Type 0 where
   pub done : flips k block out (x ∷ y ∷ z ∷ []) ≡ 0
   pub right-length : length other ≡ blockBytes
   pub apexes : Apexes (fieldsOf block .rows) x y z a b
-  pub one-region : OneRegion (fieldsOf block .rows) x y z
   pub none-held : T (not (any (holdsEdge a b) (fieldsOf block .rows)))
 
 -- The 3-2 flip of a, b is done on what the first flip left, and the table has the tetrahedra that it had before both.

@@ -9,6 +9,7 @@ use lib.ListN.{length, getD}
 use Rattle.lists.specs.Lists.{any, those}
 use Rattle.volume.specs.Volume.{D}
 use Rattle.rows.specs.Rows.{holdsEdge}
+use Rattle.rows.specs.Regions.{OneRegion}
 use Rattle.rows.specs.RowMeasure.{place}
 use Rattle.layout.specs.Layout.{Patch, blockBytes, maxRows, fieldsOf}
 use Rattle.block.specs.Holding.{RightBlock}
@@ -68,13 +69,18 @@ FlatChain block e f closed vs =
     let at = place (fieldsOf block .points) in
     closed ≡ false → D (at (min e f)) (at (max e f)) (at (getD vs 0 0)) (at (getD vs (length vs - 1) 0)) ≡ pos 0
 
+-- one region: the rows that hold both ends have the same
+abbrev pub OneMaterial : Patch → ℕ → ℕ → Type 0
+OneMaterial patch e f = OneRegion (those (holdsEdge (min e f) (max e f)) (patch .rows))
+
 -- there is room: the rows and m - 4 more, or for a chain m - 3 more, are at most 60
 abbrev pub HasRoom : List ℕ → Bool → List ℕ → Type 0
 HasRoom block closed vs = length (fieldsOf block .rows) + length vs ≤ maxRows + cond closed 4 3
 
--- All premises of the third demand: a ring or a flat chain, room, and some way of cutting it that keeps the mesh rule.
+-- All premises of the third demand: a ring or a flat chain, of one region, room, and some way of cutting it that keeps the mesh rule.
 pub record Premises (block out : List ℕ) (e f : ℕ) (closed : Bool) (vs : List ℕ) : Type 0 where
   pub ringed : Ringed block out e f closed vs
   pub flat : FlatChain block e f closed vs
+  pub one-region : OneMaterial (fieldsOf block) e f
   pub room : HasRoom block closed vs
   pub some-way : (ts : List Triangle) × Way (edgeAt (fieldsOf block) e f closed vs) ts

@@ -22,13 +22,12 @@ use Rattle.mesh.specs.Mesh.{uses, numbersFit, keepsMeshRule}
 use Rattle.rows.specs.RowMeasure.{place, rowD, totalD}
 use Rattle.rows.specs.Rows.{holdsFace}
 use Rattle.rows.specs.Tetrahedra.{rearranged, arrangedFrom}
-use Rattle.rows.proofs.EvenMeasure.{even-D, total-split}
+use Rattle.rows.proofs.EvenMeasure.{even-D, total-split, total-append}
 use Rattle.mesh.proofs.MeshRuleStated.{keeps-fits, keeps-hits}
 use Rattle.layout.specs.Layout.{Patch}
 use Rattle.walk.specs.Walk.{smallest}
 use Rattle.ring.specs.Ring.{numbersWrong}
 use Rattle.walk.proofs.TheSmallest.{smallest-in}
-use Rattle.triangulation.proofs.TotalOfPiece.{total-append}
 use Rattle.calls.specs.Flipping.{Pair, pairOf, threeRows, patchAfter23}
 use Rattle.tables.proofs.RowsOverAFace.{Over, AllOver, row-over, the-two, both-over, b-last, upA}
 

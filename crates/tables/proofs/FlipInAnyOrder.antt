@@ -1,8 +1,8 @@
--- Two tables of the same tetrahedra, in another order of rows and evenly rearranged: a 2-3 flip of both has the same tests, and the numbers
--- of its three rows are the same. A row's apex is the one number that the face has not, and a's row, evenly rearranged, gives the same v, w.
+-- Two tables of the same tetrahedra, in another order of rows and evenly rearranged: a 2-3 flip of both has the same tests and the same
+-- three rows. A row's apex is the one number that the face has not, and a's row, evenly rearranged, gives the same v, w.
 use Prim.Native.Nat.{ℕ}
 use mathlib.Core.Bool.{Bool, true, false, not}
-use mathlib.Core.List.{List, [], _∷_, _++_, map, List·Memᴰ, List·Memᴰ·head, List·Memᴰ·not-nil, Memᴰ·map, Memᴰ·of-map, map-append}
+use mathlib.Core.List.{List, [], _∷_, _++_, map, List·Memᴰ, List·Memᴰ·head, List·Memᴰ·not-nil, Memᴰ·map, Memᴰ·of-map}
 use mathlib.Core.Path.{_≡_, refl, sym, ap, _∙_, subst}
 use native.Mathlib.Omega.{arith}
 use borrow.Author.Tests.{eqb-false}
@@ -21,7 +21,6 @@ use Rattle.mesh.proofs.TablesAlike.{same-keeps, same-append}
 use Rattle.rows.proofs.EvenMoves.{even-holds}
 use Rattle.mesh.proofs.EvenFaces.{even-proper}
 use Rattle.rows.proofs.EvenGroup.{even-trans, even-sym}
-use Rattle.mesh.proofs.RegionsIgnored.{keeps-numbers}
 use Rattle.layout.specs.Layout.{maxRows, Patch}
 use Rattle.answers.specs.Answers.{Tests, firstRefusal}
 use Rattle.answers.proofs.Refusals.{refuses}
@@ -31,7 +30,7 @@ use Rattle.ring.specs.Ring.{numbersWrong}
 use Rattle.links.proofs.LinksUnderRule.{link-is}
 use Rattle.walk.proofs.TheSmallest.{smallest-same}
 use Rattle.links.proofs.SameLinks.{row-across}
-use Rattle.triangulation.proofs.AcrossTables.{those-across, length-across}
+use Rattle.triangulation.proofs.AcrossTables.{those-across, length-across, mixed-across, region-across}
 use Rattle.calls.specs.Flipping.{apexOver, Pair, pairOf, threeRows, patchAfter23, flip23Tests}
 use Rattle.tables.proofs.RowsOverAFace.{Over}
 use Rattle.tables.proofs.FacingRows.{Facing, both-in, row-of-a, face-apart, all-over, two-facing}
@@ -152,13 +151,14 @@ module _ (patch other : Patch) (x y z : ℕ) (same : SameTables patch other) whe
           ∙ ap (λ n. link (g .t .p) n (g .rowA)) (f .a-row .at-u ∙ sym (g .a-row .at-u))
           ∙ link-is (g .rowA) (g .t) proper (g .a-row .even)
 
-      pub three-same : map numbers (threeRows here list) ≡ map numbers (threeRows there list)
+      pub three-same : threeRows here list ≡ threeRows there list
       unfolding threeRows
       three-same =
           let q : f .t .q ≡ g .t .q = f .a-row .at-u ∙ sym (g .a-row .at-u) in
           let r = ap (λ (l : Link). l .0) ends-same in
           let s = ap (λ (l : Link). l .1) ends-same in
-          rw (f .t-is, g .t-is, a-same, b-same, q, r, s)
+          let region = region-across (here .removed) (there .removed) (removed-same patch other x y z same) in
+          rw (f .t-is, g .t-is, a-same, b-same, q, r, s, region)
 
       -- 14 and 15
 
@@ -167,15 +167,11 @@ module _ (patch other : Patch) (x y z : ℕ) (same : SameTables patch other) whe
       unfolding patchAfter23
       after-keeps =
           let count = length (patch .points) in
-          let new = threeRows here list in
-          let its-new = threeRows there list in
-          same-keeps count (here .kept ++ new) (there .kept ++ new)
+          let new = threeRows there list in
+          ap (λ rows. keepsMeshRule count (here .kept ++ rows)) three-same
+          ∙ same-keeps count (here .kept ++ new) (there .kept ++ new)
           (same-append (here .kept) (there .kept) new new (kept-same patch other x y z same) (λ row. refl))
-          ∙ keeps-numbers count (there .kept ++ new) (there .kept ++ its-new)
-          (map-append numbers (there .kept) new
-          ∙ ap (λ ns. map numbers (there .kept) ++ ns) three-same
-          ∙ sym (map-append numbers (there .kept) its-new))
-          ∙ ap (λ (points : List Point). keepsMeshRule (length points) (there .kept ++ its-new)) (same .points)
+          ∙ ap (λ (points : List Point). keepsMeshRule (length points) (there .kept ++ new)) (same .points)
 
     after-length : length (patchAfter23 patch list .rows) ≡ length (patchAfter23 other list .rows)
     unfolding patchAfter23 threeRows
@@ -189,12 +185,13 @@ module _ (patch other : Patch) (x y z : ℕ) (same : SameTables patch other) whe
 
   -- ---- the answers
 
-  -- 9 to 18
+  -- 9 to 11, 18 and 20
   before-same : T (different list) → before 14 (flip23Tests patch list) ≡ before 14 (flip23Tests other list)
   unfolding before flip23Tests
   before-same apart =
-      let size = length-across (here .removed) (there .removed) (removed-same patch other x y z same) in
-      rw (wrong-same patch other x y z same, size, a-same apart, b-same apart)
+      let gone = removed-same patch other x y z same in
+      let size = length-across (here .removed) (there .removed) gone in
+      rw (wrong-same patch other x y z same, size, a-same apart, b-same apart, mixed-across (here .removed) (there .removed) gone)
 
   -- where they are passed, the two rows face each other in both tables
   pub both-face : T (different list) → (length (here .removed) ≡ 0 → ⊥) → (length (here .removed) ≡ 1 → ⊥) → (here .a ≡ here .b → ⊥)

@@ -2,7 +2,7 @@
 -- The three rows are a ring of three with one way to triangulate it, and its two rows are the two that went, evenly rearranged.
 use Prim.Native.Nat.{ℕ, _≤_}
 use mathlib.Core.Bool.{Bool, true, not}
-use mathlib.Core.List.{List, [], _∷_, _++_, List·Memᴰ, List·Memᴰ·head, List·Memᴰ·tail, List·Memᴰ·not-nil}
+use mathlib.Core.List.{List, [], _∷_, _++_, List·Memᴰ, List·Memᴰ·head, List·Memᴰ·tail}
 use mathlib.Core.Logic.{_⊎_, inl, inr}
 use mathlib.Core.Path.{_≡_, refl, sym, ap, _∙_, subst}
 use native.Mathlib.Omega.{arith}
@@ -20,13 +20,15 @@ use Rattle.layout.specs.Layout.{Patch}
 use Rattle.answers.specs.Answers.{firstRefusal}
 use Rattle.ring.specs.Ring.{Site, siteOf, m, orChains, edgeTests}
 use Rattle.walk.proofs.TheSmallest.{smallest-le}
-use Rattle.triangulation.specs.Triangulation.{side, cut, span, regionOf, tableAfter}
+use Rattle.rows.specs.Regions.{regionOf, OneRegion}
+use Rattle.rows.proofs.RegionsOfRows.{region-is}
+use Rattle.triangulation.specs.Triangulation.{side, cut, span, tableAfter}
 use Rattle.triangulation.specs.Admissible.{admissible}
 use Rattle.triangulation.proofs.WholeRing.{RingWay}
 use Rattle.calls.specs.Flipping.{Pair, pairOf, threeRows, patchAfter23}
 use Rattle.tables.specs.FlipRows.{rowsAcross, rowsRound, KeepsRule}
 use Rattle.tables.proofs.FacingRows.{Facing, both-in}
-use Rattle.tables.proofs.RingOfThree.{three-closed, ring-three, three-pass, three-table}
+use Rattle.tables.proofs.RingOfThree.{three-closed, ring-three, three-pass, three-one, three-table}
 
 -- a table is what goes and what stays
 same-parts : (p : Row → Bool) (rows : List Row) → SameTetrahedra (those (λ row. not (p row)) rows ++ those p rows) rows
@@ -40,16 +42,7 @@ same-two x y = same-swap (x ∷ []) (y ∷ [])
 
 -- the two rows of the triangle are the two that went
 module _ {count : ℕ} {pair : Pair} {face : List ℕ} (f : Facing count pair face)
-    (one-region : (s t : Row) → List·Memᴰ s (pair .removed) → List·Memᴰ t (pair .removed) → s .region ≡ t .region) where
-  -- both have the region of the first
-  region-is : (row : Row) → List·Memᴰ row (pair .removed) → regionOf (pair .removed) ≡ row .region
-  region-is row k = go (pair .removed) one-region k
-    where
-      go : (rows : List Row) → ((s t : Row) → List·Memᴰ s rows → List·Memᴰ t rows → s .region ≡ t .region)
-          → List·Memᴰ row rows → regionOf rows ≡ row .region
-      go [] same k = absurd (List·Memᴰ·not-nil k)
-      go (first ∷ rows) same k = same first row (List·Memᴰ·head refl) k
-
+    (one-region : OneRegion (pair .removed)) where
   abbrev two : List Row
   two = rowsAcross (pair .a) (pair .b) (f .t .q) (f .t .r) (f .t .s) (regionOf (pair .removed))
 
@@ -57,10 +50,10 @@ module _ {count : ℕ} {pair : Pair} {face : List ℕ} (f : Facing count pair fa
   even-a = subst (λ (row : Row). T (rearranged row (f .rowA))) t-is (f .a-row .even)
     where
       t-is : f .t ≡ record { p = pair .a; q = f .t .q; r = f .t .r; s = f .t .s; region = regionOf (pair .removed) }
-      t-is = rw (← (f .at-a), region-is (f .rowA) (both-in f .0), ← (even-region (f .t) (f .rowA) (f .a-row .even)))
+      t-is = rw (← (f .at-a), region-is (pair .removed) one-region (both-in f .0), ← (even-region (f .t) (f .rowA) (f .a-row .even)))
 
   even-b : T (rearranged (record { p = f .t .q; q = f .t .r; r = f .t .s; s = pair .b; region = regionOf (pair .removed) }) (f .rowB))
-  even-b = rw (region-is (f .rowB) (both-in f .1)) (f .b-row)
+  even-b = rw (region-is (pair .removed) one-region (both-in f .1)) (f .b-row)
 
   both : SameTetrahedra two (f .rowA ∷ f .rowB ∷ [])
   both = same-cons _ (f .rowA) _ (f .rowB ∷ []) even-a (same-cons _ (f .rowB) [] [] even-b (λ row. refl))
@@ -139,7 +132,13 @@ module _ (patch : Patch) (face : List ℕ) (f : Facing (length (patch .points)) 
       ap (λ (s : Site). m s) site-is
       ∙ ap length (ring-three (patch .points) (pair .kept) (pair .a) (pair .b) (t .q) (t .r) (t .s) region (f .less) low-r low-s round-rule none-kept)
 
-  module _ (one-region : (s t : Row) → List·Memᴰ s (pair .removed) → List·Memᴰ t (pair .removed) → s .region ≡ t .region) where
+  -- of one region
+  pub back-one : OneRegion (site .removed)
+  back-one =
+      rw site-is
+      (three-one (patch .points) (pair .kept) (pair .a) (pair .b) (t .q) (t .r) (t .s) region (f .less) low-r low-s round-rule none-kept)
+
+  module _ (one-region : OneRegion (pair .removed)) where
     -- the table with the two rows has the tetrahedra of the first
     pub back-table : SameTetrahedra (tableAfter site (cut side side)) (patch .rows)
     unfolding pairOf

@@ -1,6 +1,6 @@
 -- Two tables of the same tetrahedra, in another order of rows and evenly rearranged: the ring or chain round an edge is the same, the kept
 -- rows are the same tetrahedra, so the same ways are admissible with the same worst, and the worst row round the edge is one fraction.
--- So a removal and a 3-2 flip of both have the same tests.
+-- So a removal and a 3-2 flip of both have the same tests and the same new rows.
 use Prim.Native.Nat.{ℕ, _-_, _≤_, min, max}
 use mathlib.Core.Bool.{Bool, true, false, not, _&&_, _||_}
 use mathlib.Core.List.{List, [], _∷_, map, Memᴰ·map, Memᴰ·of-map}
@@ -16,7 +16,8 @@ use Rattle.volume.specs.declared.Point.{Point}
 use Rattle.quality.proofs.QualityOrder.{Fraction, _⊑_, at-most-trans}
 use Rattle.quality.proofs.WorstAndBest.{Worst, worst-is}
 use Rattle.rows.specs.declared.Row.{Row}
-use Rattle.rows.specs.Rows.{numbers, holdsEdge}
+use Rattle.rows.specs.Rows.{holdsEdge}
+use Rattle.rows.specs.Regions.{regionOf, mixed}
 use Rattle.rows.specs.RowMeasure.{rowQuality}
 use Rattle.rows.specs.Tetrahedra.{rearranged, SameTetrahedra}
 use Rattle.rows.proofs.EvenMoves.{even-holds}
@@ -37,7 +38,7 @@ use Rattle.triangulation.proofs.AdmissibleByFaces.{ring-admissible}
 use Rattle.triangulation.proofs.AllWays.{ways-span}
 use Rattle.triangulation.proofs.WorstOfWays.{rows-fractions}
 use Rattle.triangulation.proofs.WholeRing.{way-listed, listed-way}
-use Rattle.triangulation.proofs.AcrossTables.{those-across, length-across}
+use Rattle.triangulation.proofs.AcrossTables.{those-across, length-across, mixed-across, region-across}
 use Rattle.triangulation.proofs.BestInAnyRowOrder.{kin, piece-same, barred-same, worst-same, rows-same}
 use Rattle.calls.specs.Removing.{worstNow, noWay, noneBetter, removalTests}
 use Rattle.calls.specs.Flipping.{flip32Tests}
@@ -109,6 +110,12 @@ module _ (patch other : Patch) (e f : ℕ) (same : SameTables patch other) where
       those-across (holdsEdge (min e f) (max e f)) (edge-even (min e f) (max e f))
       (patch .rows) (other .rows) (same .tetrahedra)
 
+  mixed-same : mixed (site .removed) ≡ mixed (its .removed)
+  mixed-same = mixed-across (site .removed) (its .removed) removed-same
+
+  region-same : regionOf (site .removed) ≡ regionOf (its .removed)
+  region-same = region-across (site .removed) (its .removed) removed-same
+
   points-same : its .points ≡ site .points
   unfolding siteOf
   points-same = sym (same .points)
@@ -125,15 +132,14 @@ module _ (patch other : Patch) (e f : ℕ) (same : SameTables patch other) where
         (same .rule) (same .tetrahedra)
 
     abbrev kindred : Site
-    kindred = kin site (its .removed) (its .kept) (its .links) kept-same
+    kindred = kin site (its .removed) (its .kept) (its .links) kept-same region-same
 
     site-kin : its ≡ kindred
     unfolding siteOf
     site-kin = with-fields its points-same (sym closed-same) (sym ring-same)
 
-    pub numbers-of : map numbers (newRows site 1 (chosen site)) ≡ map numbers (newRows its 1 (chosen its))
-    numbers-of = rows-same site (its .removed) (its .kept) (its .links) kept-same
-        ∙ ap (λ s. map numbers (newRows s 1 (chosen s))) (sym site-kin)
+    pub rows-of : newRows site 1 (chosen site) ≡ newRows its 1 (chosen its)
+    rows-of = rows-same site (its .removed) (its .kept) (its .links) kept-same region-same ∙ ap (λ s. newRows s 1 (chosen s)) (sym site-kin)
 
     -- answers 9 to 12
     pub edge-same : (chains : Bool) → edgeTests chains site e f ≡ edgeTests chains its e f
@@ -179,12 +185,12 @@ module _ (patch other : Patch) (e f : ℕ) (same : SameTables patch other) where
         size = ap length ring-same;
         keeps = λ t spans.
             ring-admissible site ring t spans three
-            ∙ ap (λ b. not b && pieceAdmissible site 1 t) (barred-same site (its .removed) (its .kept) (its .links) kept-same)
-            ∙ ap (λ b. not (barred kindred) && b) (piece-same site (its .removed) (its .kept) (its .links) kept-same 1 t)
+            ∙ ap (λ b. not b && pieceAdmissible site 1 t) (barred-same site (its .removed) (its .kept) (its .links) kept-same region-same)
+            ∙ ap (λ b. not (barred kindred) && b) (piece-same site (its .removed) (its .kept) (its .links) kept-same region-same 1 t)
             ∙ ap (λ s. not (barred s) && pieceAdmissible s 1 t) (sym site-kin)
             ∙ sym (ring-admissible its its-ring t (spans ∙ ap (λ (ring : List ℕ). length ring - 1) ring-same)
             (omega (arith, ap length ring-same)));
-        worst = λ t. worst-same site (its .removed) (its .kept) (its .links) kept-same 1 t ∙ ap (λ s. worstOfWay s 1 t) (sym site-kin);
+        worst = λ t. worst-same site (its .removed) (its .kept) (its .links) kept-same region-same 1 t ∙ ap (λ s. worstOfWay s 1 t) (sym site-kin);
         now = now-most;
         fraction = rows-fractions (site .points) (site .removed) (worstNow site) (worst-of .inside);
       }
@@ -211,7 +217,7 @@ module _ (patch other : Patch) (e f : ℕ) (same : SameTables patch other) (apar
       same-test (noneBetter left) (noneBetter right) (none-to left right three (alike three))
       (none-to right left three' (like other patch e f (other-way same) apart its-ring ring three'))
 
-  -- 13 to 16 and 19
+  -- 13 to 16, 19 and 20
   pub removal-same : firstRefusal (removalTests left) ≡ firstRefusal (removalTests right)
   unfolding removalTests
   removal-same = go (lengthWrong left) refl
@@ -224,6 +230,7 @@ module _ (patch other : Patch) (e f : ℕ) (same : SameTables patch other) (apar
           rw (
             length-same patch other e f same apart,
             flat-same patch other e f same apart,
+            mixed-same patch other e f same,
             room-same patch other e f same apart,
             way-same three,
             none-same three,
@@ -237,7 +244,7 @@ module _ (patch other : Patch) (e f : ℕ) (same : SameTables patch other) (apar
       size = ap length (ring-same patch other e f same apart)
 
       go : (b : Bool) → eqb (m left) minRing ≡ b → firstRefusal (flip32Tests left) ≡ firstRefusal (flip32Tests right)
-      go true h = rw (← size, ← (way-same (omega (arith, eqb-true (m left) minRing h))))
+      go true h = rw (← size, ← (mixed-same patch other e f same), ← (way-same (omega (arith, eqb-true (m left) minRing h))))
       go false h =
           refuses 13 (not (eqb (m left) minRing)) _ (ap not h)
           ∙ sym (refuses 13 (not (eqb (m right) minRing)) _ (ap not (ap (λ n. eqb n minRing) (sym size) ∙ h)))

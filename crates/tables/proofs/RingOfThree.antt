@@ -32,7 +32,9 @@ use Rattle.walk.proofs.ClosedWalks.{Walks, last, more, walks-walk}
 use Rattle.links.proofs.NextLink.{next-is}
 use Rattle.walk.proofs.LinksClose.{closes-i}
 use Rattle.walk.proofs.TheSmallest.{smallest-is}
-use Rattle.triangulation.specs.Triangulation.{Tri, side, cut, span, triangles, regionOf, twoRows, newRows, tableAfter}
+use Rattle.rows.specs.Regions.{regionOf, OneRegion}
+use Rattle.rows.proofs.RegionsOfRows.{AllIn, all-none, all-cons, all-one, region-is}
+use Rattle.triangulation.specs.Triangulation.{Tri, side, cut, span, triangles, twoRows, newRows, tableAfter}
 use Rattle.triangulation.specs.Best.{chosen}
 use Rattle.triangulation.proofs.WholeRing.{RingWay, ring-chosen}
 use Rattle.triangulation.proofs.AllWays.{span-over}
@@ -98,6 +100,9 @@ unfolding newRows triangles twoRows flatMap span
 across site u v w e = rw e
 
 -- ---- three rows
+
+pub round-region : (a b u v w region : ℕ) → AllIn region (rowsRound a b u v w region)
+round-region a b u v w region = all-cons refl (all-cons refl (all-cons refl (all-none region)))
 
 module _ (points : List Point) (kept : List Row) (a b u v w region : ℕ) (order : a < b) (uv : u ≤ v) (uw : u ≤ w)
     (rule : T (keepsMeshRule (length points) (kept ++ rowsRound a b u v w region)))
@@ -215,6 +220,17 @@ module _ (points : List Point) (kept : List Row) (a b u v w region : ℕ) (order
   unfolding edgeTests firstRefusal
   three-pass chains = rw (links-close chains, one-circle, same-points, ends-right, three-removed)
 
+  -- ---- their region
+
+  new-one : OneRegion new
+  new-one = all-one region new (round-region a b u v w region)
+
+  pub three-one : OneRegion (site .removed)
+  three-one = rw three-removed new-one
+
+  three-region : regionOf (site .removed) ≡ region
+  three-region = ap regionOf three-removed ∙ region-is new new-one (List·Memᴰ·head refl)
+
   -- ---- the only way
 
   site-a : site .a ≡ a
@@ -227,7 +243,7 @@ module _ (points : List Point) (kept : List Row) (a b u v w region : ℕ) (order
 
   pub three-table : tableAfter site (cut side side) ≡ kept ++ rowsAcross a b u v w region
   unfolding tableAfter
-  three-table = rw (across site u v w ring-three, three-kept, three-removed, site-a, site-b)
+  three-table = rw (across site u v w ring-three, three-kept, three-region, site-a, site-b)
 
 -- a ring of three is triangulated in one way
 pub one-tree : (t : Tri) → span t ≡ 2 → t ≡ cut side side

@@ -8,9 +8,9 @@ use lib.ListN.{length}
 use Rattle.lists.specs.Lists.{every, any, those, count, has, different}
 use Rattle.rows.specs.declared.Row.{Row}
 use Rattle.rows.specs.Rows.{holds, holdsEdge, holdsFace}
+use Rattle.rows.specs.Regions.{regionOf}
 use Rattle.mesh.specs.Mesh.{keepsMeshRule}
 use Rattle.layout.specs.Layout.{Patch}
-use Rattle.triangulation.specs.Triangulation.{regionOf}
 use Rattle.tables.specs.RoundAnEdge.{linked}
 
 -- the table keeps the mesh rule, with the points of the patch
@@ -29,7 +29,7 @@ rowsAcross a b u v w region =
     record { p = a; q = u; r = v; s = w; region = region }
     ∷ record { p = u; q = v; r = w; s = b; region = region } ∷ []
 
--- the new rows of the flip of a, b in the ring u, v, w: these two, with the region of the first row that goes
+-- the new rows of the flip of a, b in the ring u, v, w: these two, with the region of the rows that go
 abbrev pub new32 : List Row → ℕ → ℕ → ℕ → ℕ → ℕ → List Row
 new32 rows a b u v w = rowsAcross a b u v w (regionOf (those (holdsEdge a b) rows))
 
@@ -67,7 +67,7 @@ rowsRound a b u v w region =
     let row : ℕ → ℕ → Row = λ r s. record { p = a; q = b; r = r; s = s; region = region } in
     row u v ∷ row v w ∷ row w u ∷ []
 
--- the new rows of the flip: these three, with the region of the first row that goes
+-- the new rows of the flip: these three, with the region of the rows that go
 abbrev pub new23 : List Row → List ℕ → ℕ → ℕ → ℕ → ℕ → ℕ → List Row
 new23 rows face a b u v w = rowsRound a b u v w (regionOf (those (holdsFace face) rows))
 
