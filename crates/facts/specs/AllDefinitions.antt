@@ -10,6 +10,7 @@ use Rattle.page.specs.Page.{quotient, shown, pageRow}
 use Rattle.rows.specs.Rows.{rowIn, rowsIn}
 use Rattle.mesh.specs.Mesh.{faces, sameFace, uses, numbersFit, facesApart, keepsMeshRule}
 use Rattle.rows.specs.RowMeasure.{rowD, rowS, rowQuality}
+use Rattle.rows.specs.Regions.{regionOf, mixed}
 use Rattle.rows.specs.Tetrahedra.{evenly, arrangedFrom}
 use Rattle.layout.specs.Layout.{fieldsOf, bodyOf, sumsOnto, sumBytes}
 use Rattle.layout.specs.Layout.{sumWrong}
@@ -41,7 +42,7 @@ unfolding
     roundedUp scoreOf worstScore badness totalBadness octaveOf octave
     quotient shown pageRow
     rowIn rowsIn faces sameFace uses numbersFit facesApart keepsMeshRule rowD rowS rowQuality
-    evenly arrangedFrom
+    evenly arrangedFrom regionOf mixed
     fieldsOf bodyOf sumsOnto sumBytes
     sumWrong zeroMissing coordinateOver numberWrong firstRefusal bodyTests openAnswer
     link next walk smallest allClose circleOf heads follow chainOf siteOf flat numbersWrong whole linkOpen manyCircles edgeTests

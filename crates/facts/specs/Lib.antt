@@ -1,2 +1,3 @@
 pub mod AllDefinitions
 pub mod Facts
+pub mod Joint

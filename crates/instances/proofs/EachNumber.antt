@@ -22,11 +22,12 @@ use Rattle.calls.proofs.CallTests.{miscounted}
 use Rattle.accepted.specs.CallNumbers.{openNumbers, sealNumbers, removeNumbers, flipNumbers}
 use Rattle.facts.specs.AllDefinitions.{definitions}
 use Rattle.facts.specs.Facts.{blank, blockAWith, blockA, lowA, octahedron, openA, blockedA, sixA}
+use Rattle.facts.specs.Joint.{jointOf, joint}
 use Rattle.plate.specs.Plate.{platePoints, plateRows, plateOf}
 use Rattle.full_blocks.specs.FullBlocks.{strip, sixRing}
 use Rattle.instances.specs.EachNumber.{noneShown, NumbersCome}
 use Rattle.instances.specs.Steps.{Cases, wrongBlocks, openCases, sealCases}
-use Rattle.instances.specs.Steps.{Edge, twoRings, edgeCases, removeCases, flip32Cases, Face, flip23Cases, otherCases}
+use Rattle.instances.specs.Steps.{Edge, twoRings, mixedA, edgeCases, removeCases, flip32Cases, Face, flip23Cases, otherCases}
 
 -- ---- numbers in a table
 
@@ -84,7 +85,7 @@ removed edge = removeAnswer (edge .0) blank (edge .1) (edge .2)
 
 remove-get : T (every (gets (λ (edge : Edge). edge .0) removed) (edgeCases ++ removeCases))
 unfolding
-    wrongBlocks openCases twoRings edgeCases removeCases blockAWith blockA lowA openA blockedA sixA platePoints plateRows plateOf strip sixRing
+    wrongBlocks openCases twoRings mixedA edgeCases removeCases blockAWith blockA lowA openA blockedA sixA platePoints plateRows plateOf strip sixRing
     definitions
 remove-get = tt
 
@@ -96,7 +97,7 @@ abbrev flipped32 : Edge → ℕ
 flipped32 edge = flipAnswer (edge .0) blank (edge .1 ∷ edge .2 ∷ [])
 
 flip32-get : T (every (gets (λ (edge : Edge). edge .0) flipped32) (edgeCases ++ flip32Cases))
-unfolding wrongBlocks openCases twoRings edgeCases flip32Cases blockAWith blockA octahedron openA blockedA sixA definitions
+unfolding wrongBlocks openCases twoRings mixedA edgeCases flip32Cases blockAWith blockA octahedron openA blockedA sixA definitions
 flip32-get = tt
 
 flip32-all : T (every (has (map (λ case. case .0) (edgeCases ++ flip32Cases))) (flipNumbers (0 ∷ 0 ∷ [])))
@@ -109,7 +110,7 @@ abbrev flipped23 : Face → ℕ
 flipped23 face = flipAnswer (face .0) blank (face .1 ∷ face .2 ∷ face .3 ∷ [])
 
 flip23-get : T (every (gets (λ (face : Face). face .0) flipped23) flip23Cases)
-unfolding wrongBlocks flip23Cases blockAWith blockA strip definitions
+unfolding wrongBlocks flip23Cases blockAWith blockA strip jointOf joint definitions
 flip23-get = tt
 
 flip23-all : T (every (has (map (λ case. case .0) flip23Cases)) (flipNumbers (0 ∷ 0 ∷ 0 ∷ [])))

@@ -6,6 +6,7 @@ use Rattle.volume.specs.declared.Point.{Point}
 use Rattle.rows.specs.declared.Row.{Row}
 use Rattle.layout.specs.Layout.{Patch, bodyBytes, bodyOf, sealed, bytesOf}
 use Rattle.facts.specs.Facts.{at, row, blockAWith, blockA, lowA, octahedron, openA, blockedA, sixA}
+use Rattle.facts.specs.Joint.{rowOf, joint}
 use Rattle.plate.specs.Plate.{plateRows, plateOf}
 use Rattle.full_blocks.specs.FullBlocks.{strip, sixtyFour, sixRing}
 
@@ -65,7 +66,11 @@ twoRings = record {
   rows = blockA .rows ++ (row 0 1 5 6 ∷ row 0 1 6 7 ∷ row 0 1 7 5 ∷ []);
 }
 
--- 0 to 10, 12 and 15, which a removal and a 3-2 flip share
+-- block A with another region in its third row
+unfoldable pub mixedA : Patch
+mixedA = record { points = blockA .points; rows = row 0 1 2 3 ∷ row 0 1 3 4 ∷ rowOf 8 4 2 ∷ [] }
+
+-- 0 to 10, 12, 20 and 15, which a removal and a 3-2 flip share
 unfoldable pub edgeCases : Cases Edge
 edgeCases =
     map (λ c. (c .0, (c .1, 0, 1))) openCases
@@ -74,6 +79,8 @@ edgeCases =
     -- an end that is in no row
     ∷ (10, (bytesOf sixA, 0, 5))
     ∷ (12, (bytesOf twoRings, 0, 1))
+    -- a row of another region
+    ∷ (20, (bytesOf mixedA, 0, 1))
     -- a kept row has the triangle of the ring
     ∷ (15, (bytesOf blockedA, 0, 1))
     ∷ []
@@ -120,7 +127,7 @@ bothWays = record { points = blockA .points; rows = row 0 1 2 3 ∷ row 1 0 2 3 
 abbrev longStrip : Patch
 longStrip = record { points = sixtyFour []; rows = strip 0 60 }
 
--- 0 to 11, 14, 15 and 18
+-- 0 to 11, 14, 15, 18 and 20
 unfoldable pub flip23Cases : Cases Face
 flip23Cases =
     map (λ c. (c .0, (c .1, 2, 3, 4))) wrongBlocks
@@ -132,6 +139,8 @@ flip23Cases =
     -- one row has
     ∷ (11, (bytesOf blockA, 0, 2, 3))
     ∷ (18, (bytesOf bothWays, 0, 1, 2))
+    -- the face between copper and epoxy
+    ∷ (20, (bytesOf joint, 0, 1, 2))
     ∷ (14, (bytesOf longStrip, 1, 2, 3))
     -- a kept row has the face (0,1,3)
     ∷ (15, (bytesOf (twoRows (at 9 9 9 ∷ []) (row 5 0 1 3 ∷ [])), 2, 3, 4))

@@ -15,6 +15,7 @@ use Rattle.lists.proofs.Numbers.{numbers-i, numbers-length, same-e}
 use Rattle.quality.specs.Quality.{worse}
 use Rattle.rows.specs.declared.Row.{Row}
 use Rattle.rows.specs.RowMeasure.{rowQuality}
+use Rattle.rows.specs.Regions.{mixed}
 use Rattle.layout.specs.Layout.{fieldsOf, bytesOf}
 use Rattle.block.specs.Opening.{openAnswer}
 use Rattle.answers.specs.Answers.{firstRefusal}
@@ -73,6 +74,10 @@ ringOrChain closed n = sameBool (site closed n .closed) closed
 abbrev rounds : Bool → ℕ → Bool
 rounds closed n = same eqb (site closed n .ring) (numbersFrom 2 n)
 
+-- its rows have one region
+abbrev unmixed : Bool → ℕ → Bool
+unmixed closed n = not (mixed (site closed n .removed))
+
 -- there is room
 abbrev roomy : Bool → ℕ → Bool
 roomy closed n = not (noRoom (site closed n))
@@ -100,7 +105,8 @@ tests closed n =
     ∷ roomy closed n
     ∷ spans closed n
     ∷ keeps closed n
-    ∷ betters closed n ∷ []
+    ∷ betters closed n
+    ∷ unmixed closed n ∷ []
 
 abbrev fits : Bool → ℕ → Bool
 fits closed n = every (λ test. test) (tests closed n)
@@ -161,6 +167,7 @@ module _ (closed : Bool) (n : ℕ) (low : 3 ≤ n) (high : n ≤ 10) where
       premises-by (block closed n) blank 0 1 sound refl
       (length-passes (site closed n) (omega (arith, size-is)) (omega (arith, size-is)))
       (no-is (notFlat (site closed n)) (test-at 2 (omega arith)))
+      (no-is (mixed (site closed n .removed)) (test-at 9 (omega arith)))
       (no-is (noRoom (site closed n)) (test-at 5 (omega arith))) (way n) way-is
 
   -- the premises can be met by a ring, and by a flat chain, of each length

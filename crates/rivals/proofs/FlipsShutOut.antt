@@ -12,7 +12,7 @@ use Rattle.facts.specs.Facts.{blank, blockAWith, blockA}
 use Rattle.rivals.specs.WrongFlips.{countingFirst, numberingFirst, takingFour, facingTwo}
 
 -- one input with another number is enough
-shut : (k : Kernel) (block numbers : List ℕ) (n its : ℕ) → flipAnswer block blank numbers ≡ n → flips k block blank numbers ≡ its
+pub shut : (k : Kernel) (block numbers : List ℕ) (n its : ℕ) → flipAnswer block blank numbers ≡ n → flips k block blank numbers ≡ its
     → (its ≡ n → ⊥) → Demand1 k → ⊥
 shut k block numbers n its table told other meets = other (sym told ∙ meets .numbers .flip-number block blank numbers ∙ table)
 

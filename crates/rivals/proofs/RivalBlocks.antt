@@ -63,7 +63,7 @@ upright-A = refl
 found-A : let site = siteOf (fieldsOf (bytesOf blockA)) 0 1 in Premises (bytesOf blockA) blank 0 1 (site .closed) (site .ring)
 unfolding blockAWith blockA definitions
 found-A =
-    premises-by (bytesOf blockA) blank 0 1 (record { opens = refl; one = refl }) refl refl refl refl (cut side side)
+    premises-by (bytesOf blockA) blank 0 1 (record { opens = refl; one = refl }) refl refl refl refl refl (cut side side)
     (record { spans = refl; keeps = tt })
 
 closed-A : siteOf (fieldsOf (bytesOf blockA)) 0 1 .closed ≡ true
@@ -101,7 +101,7 @@ points-plate = refl
 found-plate : let site = siteOf (fieldsOf (bytesOf plate)) 0 1 in Premises (bytesOf plate) blank 0 1 (site .closed) (site .ring)
 unfolding platePoints plateRows plate definitions
 found-plate =
-    premises-by (bytesOf plate) blank 0 1 (record { opens = refl; one = refl }) refl refl refl refl (cut side (cut side side))
+    premises-by (bytesOf plate) blank 0 1 (record { opens = refl; one = refl }) refl refl refl refl refl (cut side (cut side side))
     (record { spans = refl; keeps = tt })
 
 closed-plate : siteOf (fieldsOf (bytesOf plate)) 0 1 .closed ≡ false
@@ -139,7 +139,7 @@ two-six = lit≤ tt
 
 found-six : Premises (bytesOf six) blank 0 1 (sixSite .closed) (sixSite .ring)
 unfolding six definitions
-found-six = premises-by (bytesOf six) blank 0 1 (record { opens = refl; one = refl }) refl refl refl refl sixBest best-six
+found-six = premises-by (bytesOf six) blank 0 1 (record { opens = refl; one = refl }) refl refl refl refl refl sixBest best-six
 
 closed-six : siteOf (fieldsOf (bytesOf six)) 0 1 .closed ≡ true
 unfolding six definitions
