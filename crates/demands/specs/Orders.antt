@@ -21,8 +21,8 @@ use Rattle.demands.specs.Kernels.{Kernel, removes, flips}
 -- ---- room
 
 -- A ring of six makes two rows more than go, so a block with more than 58 rows gets 14; a ring of four makes none more, and always has room.
--- A flat chain makes one row more than a ring of its length. All of one region; for every length it is `Tells .fourteen`, of which these are
--- cases.
+-- A flat chain makes one row more than a ring of its length. Of one region, where 20 is not given before; for every length it is
+-- `Tells .fourteen`, of which these are cases.
 pub record Room (k : Kernel) : Type 0 where
   pub ring-of-six : (block out : List ℕ) (e f : ℕ) (vs : List ℕ) → Ringed block out e f true vs → OneMaterial (fieldsOf block) e f → length vs ≡ 6
       → (removes k block out e f ≡ 14) ↔ (58 < length (fieldsOf block .rows))
