@@ -11,7 +11,7 @@
  *   1          points, 0 to 64
  *   2          rows, 0 to 60
  *   3..15      zero
- *   16..207    64 points of 3 bytes: x, y, z, each 0 to 128
+ *   16..207    64 points of 3 bytes: x, y, z, each 0 to 255
  *   208..507   60 rows of 5 bytes: four point numbers, then the region, 0 to 255
  *   508, 509   first sum, low byte first
  *   510, 511   second sum, low byte first
@@ -27,6 +27,11 @@
  * THE QUALITY of a row is 432 D^2 / S^3 with the sign of D, S being the sum of the six squared edge lengths: 1 for a
  * regular tetrahedron, 0 for a flat one. Better and worse are decided on the exact fractions. The score is 1000 times the
  * cube root of the quality of an upright row, rounded down, and 0 for any other row.
+ *
+ * A quality that is shown is a double: both whole numbers of the fraction, each rounded to the nearest double, and then
+ * divided. It has the sign of D, is +0.0 for a flat row, and lies within 2^-51 of the fraction, relative to it. Two fractions
+ * that differ by less may be shown as one double, or in the other order; one fraction with two pairs of whole numbers may be
+ * shown as two doubles. So never decide by doubles which row is worse.
  *
  * EVERY CALL
  *
@@ -76,7 +81,6 @@ extern "C" {
 #define SUMPNEWT_VERSION 1
 #define SUMPNEWT_MAX_POINTS 64
 #define SUMPNEWT_MAX_ROWS 60
-#define SUMPNEWT_MAX_COORDINATE 128
 #define SUMPNEWT_VERSION_AT 0
 #define SUMPNEWT_POINT_COUNT_AT 1
 #define SUMPNEWT_ROW_COUNT_AT 2
@@ -105,7 +109,6 @@ enum {
     SUMPNEWT_NOT_VERSION_1 = 3,  /* the version is not 1 */
     SUMPNEWT_COUNT = 4,          /* a count is over its limit */
     SUMPNEWT_NOT_ZERO = 5,       /* a byte that must be zero is not */
-    SUMPNEWT_COORDINATE = 6,     /* a coordinate is over 128 */
     SUMPNEWT_ROW = 7,            /* a row's number is not below the point count, or repeats */
     SUMPNEWT_FACE_TWICE = 8,     /* a directed face stands in two rows */
     SUMPNEWT_NOT_TWO_OR_THREE = 21,
@@ -124,7 +127,10 @@ enum {
     SUMPNEWT_NONE_BETTER = 16    /* removal: each makes a tetrahedron no better than the worst round the edge now */
 };
 
-/* 17 is unused: whichever way a ring or a flat chain is cut, the total of D stays, so there is nothing to refuse. */
+/*
+ * 6 is unused: every byte is a coordinate.
+ * 17 is unused: whichever way a ring or a flat chain is cut, the total of D stays, so there is nothing to refuse.
+ */
 
 /* The elements of a summary. */
 enum {
@@ -138,7 +144,10 @@ enum {
                              The badness of a row is the inverse of its quality, rounded up. */
 };
 
-/* The elements of a page row: the quality of the patch's worst row as one quotient, below 0 for an inverted row. */
+/*
+ * The elements of a page row: the quality of the patch's worst row as one quotient, below 0 for an inverted row. The worst
+ * row is the worst by the exact fractions.
+ */
 enum {
     SUMPNEWT_WORST_BEFORE,
     SUMPNEWT_WORST_AFTER
@@ -146,26 +155,26 @@ enum {
 
 /*
  * Opens a block: is everything in it as it must be?
- * Answers 0 to 8.
+ * Answers 0 to 5, 7 and 8.
  */
 uint32_t sumpnewt_open(const uint8_t *block, size_t n);
 
 /*
  * Seals the first 508 bytes of a block: writes them and their two sums as the 512 bytes of `out`.
- * n must be 508 and out_n 512. Answers 0, 1, 3 to 8.
+ * n must be 508 and out_n 512. Answers 0, 1, 3 to 5, 7 and 8.
  */
 uint32_t sumpnewt_seal(const uint8_t *fields, size_t n, uint8_t *out, size_t out_n);
 
 /*
  * Summarises a patch: counts of upright, flat and inverted rows, worst score, octave.
- * out_n must be 7. Answers 0 to 8; 1 also for out_n.
+ * out_n must be 7. Answers as sumpnewt_open does; 1 also for out_n.
  */
 uint32_t sumpnewt_summary(const uint8_t *block, size_t n, uint64_t *out, size_t out_n);
 
 /*
  * Shows the quality of each row as one quotient, the rows in order: below 0 for an inverted row, +0.0 for a flat one. The
  * elements behind the rows are +0.0.
- * out_n must be 60. Answers 0 to 8; 1 also for out_n.
+ * out_n must be 60. Answers as sumpnewt_open does; 1 also for out_n.
  */
 uint32_t sumpnewt_shown(const uint8_t *block, size_t n, double *out, size_t out_n);
 
@@ -174,7 +183,7 @@ uint32_t sumpnewt_shown(const uint8_t *block, size_t n, double *out, size_t out_
  * the edge that keep the mesh rule, the one whose worst tetrahedron is best, if that is better than the worst there now.
  * The tetrahedra round the edge close, or they are one open chain between two outer faces that make one plane; and they are
  * of one region. The new block has the kept rows in order, then the new rows with that region; points stay.
- * out_n must be 512. Answers 0 to 16, 19 and 20.
+ * out_n must be 512. Answers 0 to 5, 7 to 16, 19 and 20.
  */
 uint32_t sumpnewt_remove(const uint8_t *block, size_t n, size_t a, size_t b, uint8_t *out, size_t out_n);
 
@@ -188,8 +197,9 @@ uint32_t sumpnewt_page(const uint8_t *block, size_t n, size_t a, size_t b, doubl
  * Flips, whatever the quality. Two numbers are the ends of an edge, in either order: the three rows that close round it
  * become two. Three numbers are a face, in any order: the two rows at it become three. Any other count gets 21.
  * The rows that go must have one region. The new block has the kept rows in order, then the new rows with that region; points stay.
- * out_n must be 512. Answers with two numbers: 0 to 13, 20 and 15; 11 for every open case, 13 unless there are exactly three.
- * With three: 0 to 11, 18, 20, 14 and 15. With any other count: 1 to 8 and 21. With count 0 numbers may be a null pointer.
+ * out_n must be 512. Answers with two numbers: 0 to 5, 7 to 13, 20 and 15; 11 for every open case, 13 unless there are exactly
+ * three. With three: 0 to 5, 7 to 11, 18, 20, 14 and 15. With any other count: 1 to 5, 7, 8 and 21. With count 0 numbers may be
+ * a null pointer.
  */
 uint32_t sumpnewt_flip(const uint8_t *block, size_t n, const size_t *numbers, size_t count, uint8_t *out, size_t out_n);
 

@@ -45,7 +45,7 @@ module _ (block : List ℕ) (opened : openAnswer block ≡ 0) (rows : List Row) 
         let table = fieldsOf block .rows in
         let one = one-region (those goes table) unmixed in
         record {
-          right = bytes-right withRows (few-points block opened) room (right-block block opened .body .coordinates) rule;
+          right = bytes-right withRows (few-points block opened) room rule;
           points = rw rows-read;
           rows = rw rows-read made;
           rule = rw rows-read (rule-stated (length (fieldsOf block .points)) rows rule);

@@ -17,9 +17,6 @@ pub const COUNT: u8 = 4;
 // A byte that must be zero has another value.
 pub const NOT_ZERO: u8 = 5;
 
-// A coordinate is over 128.
-pub const COORDINATE: u8 = 6;
-
 // A row has a number that is not below the point count, or one twice.
 pub const ROW: u8 = 7;
 

@@ -5,16 +5,18 @@ use mathlib.Core.List.{List, [], _∷_}
 use mathlib.Core.Path.{_≡_, _∙_}
 use native.Mathlib.Omega.{arith}
 use borrow.Author.Tests.{eqb-true, not-false}
-use lib.ListN.{length, drop, take-append-drop}
+use lib.ListN.{length, take-append-drop}
 use lib.Seq.{take-all}
 use Rattle.lists.specs.Lists.{every}
 use Rattle.lists.proofs.Tests.{neither-is}
-use Rattle.lists.proofs.Lists.{every-take, every-drop}
+use Rattle.lists.proofs.Lists.{every-take}
 use Rattle.answers.specs.Answers.{Tests}
 use Rattle.answers.proofs.ByNumber.{testOf, passes, both-passed}
-use Rattle.layout.specs.Layout.{Patch, bodyBytes, maxPoints, maxRows, rowCount, tableOf, fieldsOf, bodyOf, sumBytes, bytesOf}
+use Rattle.layout.specs.Layout.{Patch, bodyBytes, maxPoints, maxRows, pointsAt, rowsAt, pointCount, rowCount, coordinatesOf, tableOf}
+use Rattle.layout.specs.Layout.{fieldsOf, bodyOf, sumBytes, bytesOf}
 use Rattle.layout.specs.Within.{isByte}
-use Rattle.layout.proofs.PatchWritten.{body-read, points-counted, rows-counted, rows-bytes, read-written, bytes-written}
+use Rattle.layout.proofs.BytesOfSlices.{part-bytes}
+use Rattle.layout.proofs.PatchWritten.{body-read, points-counted, rows-counted, points-bytes, rows-bytes, read-written, bytes-written}
 use Rattle.body.specs.Body.{bodyTests, RightBody}
 use Rattle.body.proofs.RightBodies.{right-body}
 use Rattle.body.proofs.BodyWritten.{body-written}
@@ -27,7 +29,7 @@ use Rattle.block.proofs.RightWritten.{bytes-right}
 pub opens-written : (patch : Patch) → Holdable patch → openAnswer (bytesOf patch) ≡ 0
 opens-written patch holdable =
     let within = holdable .within in
-    opens (bytesOf patch) (bytes-right patch (within .few-points) (within .few-rows) (within .coordinates) (holdable .rule))
+    opens (bytesOf patch) (bytes-right patch (within .few-points) (within .few-rows) (holdable .rule))
 
 -- writing the fields of a block that opens gives the block, byte for byte
 pub written-read : (block : List ℕ) → openAnswer block ≡ 0 → bytesOf (fieldsOf block) ≡ block
@@ -48,11 +50,12 @@ holdable-read block opening =
       within = record {
         few-points = rw (points-counted block) (body .few-points);
         few-rows = rw (rows-counted block) (body .few-rows);
-        coordinates = body .coordinates;
+        coordinates =
+            rw (points-bytes block room (body .few-points))
+            (every-take isByte (3 * pointCount block) (coordinatesOf block) (part-bytes pointsAt rowsAt block (opening .bytes)));
         bytes =
             rw (rows-bytes block room (body .few-rows))
-            (every-take isByte (5 * rowCount block) (tableOf block)
-            (every-take isByte 300 (drop 208 block) (every-drop isByte 208 block (opening .bytes))));
+            (every-take isByte (5 * rowCount block) (tableOf block) (part-bytes rowsAt bodyBytes block (opening .bytes)));
       };
       rule = body .rule;
     }
@@ -95,6 +98,6 @@ seal-opens body out e =
     let points : length (patch .points) ≤ maxPoints = rw (points-counted body) (right .few-points) in
     let rows : length (patch .rows) ≤ maxRows = rw (rows-counted body) (right .few-rows) in
     rw (seal-written body out e) (
-      opens (bytesOf patch) (bytes-right patch points rows (right .coordinates) (right .rule)),
+      opens (bytesOf patch) (bytes-right patch points rows (right .rule)),
       body-read patch points rows (sumBytes (bodyOf patch)),
     )

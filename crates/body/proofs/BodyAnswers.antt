@@ -8,7 +8,7 @@ use Rattle.answers.specs.declared.Answer.{Answer}
 use Rattle.answers.specs.declared.Answer.the-variants.{Done, Refused}
 use Rattle.answers.specs.Answers.{firstRefusal, answerOf}
 use Rattle.layout.specs.Layout.{theVersion, maxPoints, maxRows, version, pointCount, rowCount, fieldsOf}
-use Rattle.body.specs.Body.{bodyTests, zeroMissing, coordinateOver, numberWrong, faceTwice}
+use Rattle.body.specs.Body.{bodyTests, zeroMissing, numberWrong, faceTwice}
 
 -- the answer to a body
 abbrev pub answerTo : List ℕ → Answer
@@ -30,8 +30,7 @@ module _ (block : List ℕ) (a3 : version block ≡ theVersion) where
 
     module _ (b4 : rowCount block ≤ maxRows) where
       passed-4 : firstRefusal (bodyTests block) ≡ firstRefusal (
-          (5, zeroMissing block) ∷ (6, coordinateOver (fieldsOf block)) ∷ (7, numberWrong (fieldsOf block))
-          ∷ (8, faceTwice (fieldsOf block)) ∷ []
+          (5, zeroMissing block) ∷ (7, numberWrong (fieldsOf block)) ∷ (8, faceTwice (fieldsOf block)) ∷ []
           )
       unfolding bodyTests firstRefusal
       passed-4 = rw (eq-eqb (version block) theVersion a3, le-ltb maxPoints (pointCount block) a4, le-ltb maxRows (rowCount block) b4)
@@ -40,19 +39,15 @@ module _ (block : List ℕ) (a3 : version block ≡ theVersion) where
       unfolding firstRefusal
       refused-5 a = rw (passed-4, a)
 
-      pub refused-6 : zeroMissing block ≡ false → coordinateOver (fieldsOf block) ≡ true → Refused 6 ≡ answerTo block
-      unfolding firstRefusal
-      refused-6 a5 a = rw (passed-4, a5, a)
-
-      module _ (a5 : zeroMissing block ≡ false) (a6 : coordinateOver (fieldsOf block) ≡ false) where
+      module _ (a5 : zeroMissing block ≡ false) where
         pub refused-7 : numberWrong (fieldsOf block) ≡ true → Refused 7 ≡ answerTo block
         unfolding firstRefusal
-        refused-7 a = rw (passed-4, a5, a6, a)
+        refused-7 a = rw (passed-4, a5, a)
 
         pub refused-8 : numberWrong (fieldsOf block) ≡ false → faceTwice (fieldsOf block) ≡ true → Refused 8 ≡ answerTo block
         unfolding firstRefusal
-        refused-8 a7 a = rw (passed-4, a5, a6, a7, a)
+        refused-8 a7 a = rw (passed-4, a5, a7, a)
 
         pub all-right : numberWrong (fieldsOf block) ≡ false → faceTwice (fieldsOf block) ≡ false → Done ≡ answerTo block
         unfolding firstRefusal
-        all-right a7 a = rw (passed-4, a5, a6, a7, a)
+        all-right a7 a = rw (passed-4, a5, a7, a)

@@ -1,34 +1,31 @@
--- What is written of a patch that keeps the rule is a right body; the fields of a right body, written, are the body. What answers 6 to 8
+-- What is written of a patch that keeps the rule is a right body; the fields of a right body, written, are the body. What answers 7 and 8
 -- test is in the bytes what it is in the fields.
 use Prim.Native.Nat.{ℕ, _+_, _-_, _*_, _≤_}
 use mathlib.Core.Bool.{not}
 use mathlib.Core.List.{List, [], _∷_, _++_, flatMap}
 use mathlib.Core.Path.{_≡_, refl, sym, ap, _∙_}
 use native.Mathlib.Omega.{arith}
-use lib.Dec.{T, ltb}
-use lib.ListN.{length, take, drop}
-use lib.Seq.{take-take}
-use Rattle.lists.specs.Lists.{every, any}
-use Rattle.volume.specs.Volume.{maxCoordinate, pointSize, pointBytes}
+use lib.Dec.{T}
+use lib.ListN.{length, take}
+use Rattle.lists.specs.Lists.{every}
+use Rattle.volume.specs.Volume.{pointBytes}
 use Rattle.volume.proofs.PointsInBytes.{points-length}
 use Rattle.rows.specs.Rows.{rowBytes, rowsIn}
 use Rattle.mesh.specs.Mesh.{numbersFit, facesApart}
 use Rattle.layout.specs.Layout.{Patch, bodyBytes, maxPoints, maxRows, zerosAt, pointsAt, version, pointCount, rowCount, part, coordinatesOf}
 use Rattle.layout.specs.Layout.{tableOf, fieldsOf, filled, bodyOf}
-use Rattle.layout.specs.Within.{onGrid}
 use Rattle.layout.proofs.CellsReadBack.{point-cells, row-cells, written-length}
 use Rattle.layout.proofs.BlockParts.{part-cut, zero-behind, filled-behind}
 use Rattle.layout.proofs.PatchWritten.{coordinates-at, table-at, points-at, rows-at, version-at, zeros-at, body-read}
 use Rattle.layout.proofs.PatchWritten.{body-room, points-counted, rows-counted, points-bytes, rows-bytes}
-use Rattle.body.specs.Body.{coordinateOver, numberWrong, faceTwice, keepsRule, RightBody}
+use Rattle.body.specs.Body.{numberWrong, faceTwice, keepsRule, RightBody}
 
 -- ---- a written patch
 
 module _ (patch : Patch) (few-points : length (patch .points) ≤ maxPoints) (few-rows : length (patch .rows) ≤ maxRows) where
   -- a written patch is a right body, whatever stands behind it
-  pub body-right : T (every onGrid (flatMap pointBytes (patch .points))) → T (keepsRule patch) → (rest : List ℕ)
-      → RightBody (bodyOf patch ++ rest)
-  body-right on-grid rule rest =
+  pub body-right : T (keepsRule patch) → (rest : List ℕ) → RightBody (bodyOf patch ++ rest)
+  body-right rule rest =
       let block = bodyOf patch ++ rest in
       let points = patch .points in
       let rows = patch .rows in
@@ -47,22 +44,10 @@ module _ (patch : Patch) (few-points : length (patch .points) ≤ maxPoints) (fe
             rw (rows-at patch rest)
             (zero-behind 208 508 (5 * length rows) block (flatMap rowBytes rows) room (omega arith)
             (written-length row-cells rows) (table-at patch few-points few-rows rest));
-        coordinates = rw fields on-grid;
         rule = rw fields rule;
       }
 
 -- ---- what the tests of the bytes say of the fields
-
-module _ (block : List ℕ) (room : bodyBytes ≤ length block) where
-  -- the coordinates that are tested are the bytes of the points
-  pub coordinates-tested : pointCount block ≤ maxPoints
-      → coordinateOver (fieldsOf block) ≡ any (ltb maxCoordinate) (part pointsAt (pointsAt + pointSize * pointCount block) block)
-  unfolding coordinateOver
-  coordinates-tested few =
-      let n = pointSize * pointCount block in
-      let e : pointsAt + n - pointsAt ≡ n = omega arith in
-      ap (any (ltb maxCoordinate)) (points-bytes block room few
-      ∙ (take-take n 192 (drop 16 block) (omega arith) ∙ ap (λ k. take k (drop 16 block)) (sym e)))
 
 -- the numbers that are tested are those of the rows, against the count
 pub numbers-tested : (block : List ℕ)

@@ -5,22 +5,20 @@ use mathlib.Core.List.{List}
 use mathlib.Core.Path.{_≡_, ap, _∙_}
 use native.Mathlib.Omega.{arith}
 use borrow.Author.Tests.{eqb-true, ltb-false, le-ltb, eq-eqb, not-false}
-use lib.Dec.{T, ltb, leb→le, le→leb}
+use lib.Dec.{T, ltb}
 use lib.ListN.{length, replicate}
-use Rattle.lists.specs.Lists.{every, any}
+use Rattle.lists.specs.Lists.{every}
 use Rattle.lists.proofs.Tests.{and-l, and-r, and-i, yes-is, is-yes, neither-is}
-use Rattle.lists.proofs.Lists.{none-every, every-none}
 use Rattle.lists.proofs.Numbers.{zeros-e, zeros-i}
-use Rattle.volume.specs.Volume.{maxCoordinate, pointSize}
+use Rattle.volume.specs.Volume.{pointSize}
 use Rattle.answers.specs.Answers.{firstRefusal}
 use Rattle.answers.proofs.ByNumber.{testOf, passes}
 use Rattle.rows.specs.Rows.{rowSize}
 use Rattle.mesh.specs.Mesh.{numbersFit, facesApart, keepsMeshRule}
 use Rattle.layout.specs.Layout.{Patch, bodyBytes, maxPoints, maxRows, zerosAt, pointsAt, rowsAt, pointCount, rowCount, part}
 use Rattle.layout.specs.Layout.{fieldsOf}
-use Rattle.layout.specs.Within.{onGrid}
 use Rattle.layout.proofs.BlockParts.{part-length}
-use Rattle.body.specs.Body.{bodyTests, notZero, zeroMissing, coordinateOver, numberWrong, faceTwice, keepsRule, RightBody}
+use Rattle.body.specs.Body.{bodyTests, notZero, zeroMissing, numberWrong, faceTwice, keepsRule, RightBody}
 
 -- 5: the bytes from i to j - 1 are zero
 zero-part : (i j : ℕ) (block : List ℕ) → j ≤ length block → notZero i j block ≡ false → part i j block ≡ replicate (j - i) 0
@@ -28,13 +26,6 @@ zero-part i j block h e = zeros-e (part i j block) e ∙ ap (λ n. replicate n 0
 
 part-zero : (i j : ℕ) (block : List ℕ) → part i j block ≡ replicate (j - i) 0 → notZero i j block ≡ false
 part-zero i j block e = rw e (zeros-i (j - i))
-
--- 6: no coordinate is over 128
-on-grid : (bytes : List ℕ) → any (ltb maxCoordinate) bytes ≡ false → T (every onGrid bytes)
-on-grid bytes e = none-every (ltb maxCoordinate) onGrid (λ x k. le→leb x maxCoordinate (ltb-false maxCoordinate x k)) bytes e
-
-grid-on : (bytes : List ℕ) → T (every onGrid bytes) → any (ltb maxCoordinate) bytes ≡ false
-grid-on bytes h = every-none (ltb maxCoordinate) onGrid (λ x k. le-ltb maxCoordinate x (leb→le x maxCoordinate k)) bytes h
 
 -- 7 and 8: the mesh rule
 
@@ -59,7 +50,7 @@ met-faces patch h = ap not (yes-is (apart patch) (and-r (fit patch) (apart patch
 
 -- what answers 3 to 8 let pass is right
 pub right-body : (block : List ℕ) → bodyBytes ≤ length block → firstRefusal (bodyTests block) ≡ 0 → RightBody block
-unfolding bodyTests testOf every zeroMissing coordinateOver
+unfolding bodyTests testOf every zeroMissing
 right-body block h e =
     let not-given : (n : ℕ) → testOf n (bodyTests block) ≡ false = λ n. passes n (bodyTests block) tt e in
     let (few-p, few-r) = neither-is (ltb maxPoints (pointCount block)) (ltb maxRows (rowCount block)) (not-given 4) in
@@ -73,13 +64,12 @@ right-body block h e =
       zeros = zero-part zerosAt pointsAt block (omega arith) zero-h;
       zero-points = zero-part (pointsAt + pointSize * pointCount block) rowsAt block (omega arith) zero-p;
       zero-rows = zero-part (rowsAt + rowSize * rowCount block) bodyBytes block h zero-r;
-      coordinates = on-grid _ (not-given 6);
       rule = rule-met (fieldsOf block) (not-given 7) (not-given 8);
     }
 
 -- a right body is let pass
 pub body-passes : (block : List ℕ) → RightBody block → firstRefusal (bodyTests block) ≡ 0
-unfolding bodyTests zeroMissing coordinateOver firstRefusal
+unfolding bodyTests zeroMissing firstRefusal
 body-passes block right =
     let a3 = eq-eqb _ _ (right .version-is) in
     let a4 = le-ltb _ _ (right .few-points) in
@@ -87,7 +77,6 @@ body-passes block right =
     let a5 = part-zero zerosAt pointsAt block (right .zeros) in
     let b5 = part-zero (pointsAt + pointSize * pointCount block) rowsAt block (right .zero-points) in
     let c5 = part-zero (rowsAt + rowSize * rowCount block) bodyBytes block (right .zero-rows) in
-    let a6 = grid-on _ (right .coordinates) in
     let a7 = met-numbers (fieldsOf block) (right .rule) in
     let a8 = met-faces (fieldsOf block) (right .rule) in
-    rw (a3, a4, b4, a5, b5, c5, a6, a7, a8)
+    rw (a3, a4, b4, a5, b5, c5, a7, a8)

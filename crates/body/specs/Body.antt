@@ -1,18 +1,17 @@
--- Requirement §9: answers 3 to 8, which the first 508 bytes get; and what they test, as a statement.
+-- Requirement §9: answers 3 to 8 (6 is unused), which the first 508 bytes get; and what they test, as a statement.
 use Prim.Native.Nat.{ℕ, _+_, _*_, _-_, _≤_}
 use mathlib.Core.Bool.{Bool, not, _||_}
-use mathlib.Core.List.{List, [], _∷_, flatMap}
+use mathlib.Core.List.{List, [], _∷_}
 use mathlib.Core.Path.{_≡_}
 use lib.Dec.{eqb, ltb, T}
 use lib.ListN.{length, replicate}
 use Rattle.lists.specs.Lists.{every, any}
-use Rattle.volume.specs.Volume.{maxCoordinate, pointSize, pointBytes}
+use Rattle.volume.specs.Volume.{pointSize}
 use Rattle.answers.specs.Answers.{Tests}
 use Rattle.rows.specs.Rows.{rowSize}
 use Rattle.mesh.specs.Mesh.{numbersFit, facesApart, keepsMeshRule}
 use Rattle.layout.specs.Layout.{Patch, bodyBytes, theVersion, maxPoints, maxRows, zerosAt, pointsAt, rowsAt, version}
 use Rattle.layout.specs.Layout.{pointCount, rowCount, part, fieldsOf}
-use Rattle.layout.specs.Within.{onGrid}
 
 -- ---- what each answer is given for
 
@@ -35,10 +34,6 @@ zeroMissing block =
     || notZero (pointsAt + pointSize * pointCount block) rowsAt block
     || notZero (rowsAt + rowSize * rowCount block) bodyBytes block
 
--- 6: a coordinate is over 128
-unfoldable pub coordinateOver : Patch → Bool
-coordinateOver patch = any (ltb maxCoordinate) (flatMap pointBytes (patch .points))
-
 -- 7: a row's number is not below the point count, or repeats
 unfoldable pub numberWrong : Patch → Bool
 numberWrong patch = not (every (numbersFit (length (patch .points))) (patch .rows))
@@ -47,13 +42,12 @@ numberWrong patch = not (every (numbersFit (length (patch .points))) (patch .row
 abbrev pub faceTwice : Patch → Bool
 faceTwice patch = not (facesApart (patch .rows))
 
--- 3 to 8, which opening and sealing share
+-- 3 to 8 without 6, which opening and sealing share
 unfoldable pub bodyTests : List ℕ → Tests
 bodyTests block =
     (3, versionWrong block)
     ∷ (4, countOver block)
     ∷ (5, zeroMissing block)
-    ∷ (6, coordinateOver (fieldsOf block))
     ∷ (7, numberWrong (fieldsOf block))
     ∷ (8, faceTwice (fieldsOf block)) ∷ []
 
@@ -72,5 +66,4 @@ pub record RightBody (block : List ℕ) : Type 0 where
   pub zero-points : part (pointsAt + pointSize * pointCount block) rowsAt block
       ≡ replicate (rowsAt - (pointsAt + pointSize * pointCount block)) 0
   pub zero-rows : part (rowsAt + rowSize * rowCount block) bodyBytes block ≡ replicate (bodyBytes - (rowsAt + rowSize * rowCount block)) 0
-  pub coordinates : T (every onGrid (flatMap pointBytes (fieldsOf block .points)))
   pub rule : T (keepsRule (fieldsOf block))

@@ -1,14 +1,13 @@
-// The first 508 bytes of a block: answers 3 to 8.
+// The first 508 bytes of a block: answers 3 to 8; 6 is unused.
 ghost use Prim.Native.Nat.{_+_, _≤_, _<_};
 ghost use mathlib.Core.Bool.{not};
 ghost use mathlib.Core.Path.{_≡_};
-ghost use lib.Dec.{eqb, ltb};
+ghost use lib.Dec.{eqb};
 ghost use lib.ListN.{length};
 ghost use Rattle.lists.specs.Lists.{any};
-ghost use Rattle.volume.specs.Volume.{maxCoordinate};
 ghost use Rattle.answers.specs.Answers.{firstRefusal, answerOf};
 ghost use Rattle.layout.specs.Layout.{bodyBytes, maxPoints, maxRows, pointCount, rowCount, fieldsOf};
-ghost use Rattle.body.specs.Body.{zeroMissing, coordinateOver, numberWrong, faceTwice, bodyTests};
+ghost use Rattle.body.specs.Body.{zeroMissing, numberWrong, faceTwice, bodyTests};
 use answers::Answer;
 use layout::BODY_BYTES;
 use layout::MAX_POINTS;
@@ -20,27 +19,12 @@ use layout::ZEROS_AT;
 use rows::ROW_SIZE;
 use volume::POINT_SIZE;
 
-// The largest coordinate.
-const MAX_COORDINATE: u8 = 128;
-
 // Some byte is not zero.
 fn not_zero(part: &[u8]) -> bool
     ensures { λ r. ⌜ r ≡ any (λ x. not (eqb x 0)) (now (part .entry)) ⌝ }
 {
     for i in 0..part.len() {
         if part[i] != 0 {
-            return true;
-        }
-    }
-    false
-}
-
-// Some byte is over 128.
-fn some_over(part: &[u8]) -> bool
-    ensures { λ r. ⌜ r ≡ any (ltb maxCoordinate) (now (part .entry)) ⌝ }
-{
-    for i in 0..part.len() {
-        if MAX_COORDINATE < part[i] {
             return true;
         }
     }
@@ -62,16 +46,6 @@ fn zero_missing(block: &[u8]) -> bool
     }
     let rows_end = ROWS_AT + ROW_SIZE * (block[2] as usize);
     not_zero(&block[rows_end..BODY_BYTES])
-}
-
-// A coordinate of a point is over 128.
-fn coordinate_over(block: &[u8]) -> bool
-    requires { ⌜ bodyBytes ≤ length (now block) ⌝ }
-    requires { ⌜ pointCount (now block) ≤ maxPoints ⌝ }
-    ensures { λ r. ⌜ r ≡ coordinateOver (fieldsOf (now (block .entry))) ⌝ }
-{
-    let end = POINTS_AT + POINT_SIZE * (block[1] as usize);
-    some_over(&block[POINTS_AT..end])
 }
 
 // A row's number is not below the point count, or repeats.
@@ -110,9 +84,6 @@ pub fn body_answer(block: &[u8]) -> Answer
     }
     if zero_missing(block) {
         return Answer::Refused(answers::NOT_ZERO);
-    }
-    if coordinate_over(block) {
-        return Answer::Refused(answers::COORDINATE);
     }
     if number_wrong(block) {
         return Answer::Refused(answers::ROW);

@@ -16,4 +16,5 @@ pub mod Flip23Words
 pub mod QualityByDAndS
 pub mod SummaryGiven
 pub mod Demand2
+pub mod NearlyShown
 pub mod Demand3

@@ -1,17 +1,18 @@
 -- Our kernel gives every right block its summary: the laws of lists of qualities, brought to the rows of a block. And any kernel that
 -- gives every right block its summary gives the same.
 use Prim.Native.Nat.{ℕ, suc, _*_, _^_, _≤_, _<_}
-use mathlib.Core.Bool.{Bool, true, false, not}
-use mathlib.Core.List.{List, [], _∷_, map, cons-ne-nil, List·Memᴰ·not-nil, Memᴰ·of-map, Memᴰ·map}
+use mathlib.Core.Bool.{Bool, true, false}
+use mathlib.Core.List.{List, [], _∷_, map, cons-ne-nil, List·Memᴰ, List·Memᴰ·head, List·Memᴰ·tail, List·Memᴰ·not-nil, Memᴰ·of-map}
+use mathlib.Core.List.{Memᴰ·map}
 use mathlib.Core.Logic.{_↔_}
 use mathlib.Core.Option.{Option, none, some}
 use mathlib.Core.Path.{_≡_, refl, sym, ap, _∙_, subst}
 use native.Mathlib.Decide.{decLe, decLt}
-use native.Mathlib.Nat.{le-antisymm}
+use native.Mathlib.Nat.{le-antisymm, mul-le-mul-right}
 use native.Mathlib.Omega.{arith}
 use lib.Dec.{T, lit<}
 use lib.ListN.{length}
-use Rattle.lists.specs.Lists.{count, sum}
+use Rattle.lists.specs.Lists.{count, every, sum}
 use Rattle.lists.proofs.Lists.{those-e}
 use Rattle.lists.proofs.Images.{map-same}
 use Rattle.volume.specs.declared.Point.{Point}
@@ -21,28 +22,31 @@ use Rattle.score.specs.declared.WorstScore.{WorstScore}
 use Rattle.score.specs.declared.WorstScore.the-variants.{Worst, NoRows}
 use Rattle.score.specs.declared.Octave.{Octave}
 use Rattle.score.specs.declared.Octave.the-variants.{Exponent, NoUpright}
-use Rattle.quality.specs.Quality.{isUpright, worst}
-use Rattle.score.specs.Score.{scoreOf, totalBadness, worstScore, octaveOf, octave}
+use Rattle.volume.specs.Volume.{pointsIn}
+use Rattle.quality.specs.Quality.{quality, isUpright, worst}
+use Rattle.score.specs.Score.{scoreOf, badness, added, totalBadness, worstScore, octaveOf, octave}
 use Rattle.quality.proofs.WorstAndBest.{Fractions, worst-is}
 use Rattle.score.proofs.ScoreLargest.{worst-score-smallest}
-use Rattle.quality.proofs.QualityBounds.{partLimit, num-most-128, den-most-128, num-below-53, den-below-53}
-use Rattle.volume.proofs.VolumeBounds.{D-most-128, S-most-128}
+use Rattle.quality.proofs.QualityBounds.{Small, quality-small, num-below-59, den-below-59}
+use Rattle.volume.proofs.VolumeBounds.{D-of-bytes, S-of-bytes}
 use Rattle.score.proofs.OctaveLargest.{OctaveIs as OctaveOf, octave-of-rows, octave-of-none, doubled-less}
 use Rattle.rows.specs.declared.Row.{Row}
+use Rattle.rows.specs.Rows.{rowsIn}
 use Rattle.rows.specs.RowMeasure.{place, rowD, rowS, rowQuality}
-use Rattle.layout.specs.Layout.{Patch, fieldsOf}
-use Rattle.body.specs.Body.{coordinateOver}
+use Rattle.layout.specs.Layout.{Patch, pointsAt, rowsAt, pointCount, rowCount, coordinatesOf, tableOf, fieldsOf}
 use Rattle.block.proofs.RightBlocks.{opens}
 use Rattle.summary.specs.declared.Summary.{Summary}
 use Rattle.tally.specs.Tally.{qualities}
 use Rattle.summary.specs.Summary.{summaryOf}
-use Rattle.tally.proofs.RowsOnGrid.{place-within}
-use Rattle.summary.proofs.BadnessFits.{qualities-rows}
-use Rattle.tally.proofs.OpensMeasured.{opens-measured}
+use Rattle.layout.specs.Within.{isByte}
+use Rattle.layout.proofs.BytesOfSlices.{part-bytes}
+use Rattle.tally.proofs.RowsInBytes.{place-within, row-proper, row-small}
+use Rattle.summary.proofs.BadnessFits.{badnessLimit, badness-most, qualities-rows}
 use Rattle.calls.specs.declared.Summarised.the-variants.{Summary as Summed}
 use Rattle.accepted.proofs.AfterRemoval.{summary-opened}
 use Rattle.demands.specs.Kernels.{ours}
-use Rattle.demands.specs.Summaries.{over0, uprights, ScoreIs, BadnessSum, WorstIs, OctaveIs, Bounded, Sums, Summarises, OneSummary}
+use Rattle.demands.specs.Summaries.{over0, uprights, ScoreIs, BadnessIs, BadnessSum, WorstIs, OctaveIs, maxBadness, Bounded, SumsFit}
+use Rattle.demands.specs.Summaries.{Sums, Summarises, OneSummary}
 use Rattle.demands.proofs.QualityByDAndS.{score-is, one-score, badness-is, one-badness, by-D-and-S, upright-count, flat-count}
 use Rattle.demands.proofs.QualityByDAndS.{inverted-count, three-counts, rowBadness, upright-sum}
 
@@ -77,16 +81,26 @@ empty : {A : Type 0} (xs : List A) → length xs ≡ 0 → xs ≡ []
 empty [] e = refl
 empty (x ∷ xs) e = absurd (omega arith)
 
--- ---- a patch with its coordinates on the grid
+-- ---- a patch with bytes for its coordinates
 
-module _ (patch : Patch) (grid : T (not (coordinateOver patch))) where
+module _ (coordinates : List ℕ) (bytes : T (every isByte coordinates)) (n : ℕ) (rows : List Row) where
   abbrev points : List Point
-  points = patch .points
+  points = pointsIn coordinates n
+
+  abbrev patch : Patch
+  patch = record { points = points; rows = rows }
 
   abbrev qs : List Quality
   qs = qualities patch
 
-  -- each row is within the bounds, since each place is on the grid
+  row-badness-most : (row : Row) → T (over0 (rowD points row)) → (b : ℕ) → BadnessIs (rowD points row) (rowS points row) b → b ≤ maxBadness
+  row-badness-most row up b is =
+      let q = rowQuality points row in
+      let own : BadnessIs (rowD points row) (rowS points row) (added (badness q)) =
+      rw (by-D-and-S points row) (badness-is (rowD points row) (rowS points row) up) in
+      subst (λ c. c ≤ maxBadness) (one-badness own is) (badness-most q (row-proper points row) (row-small coordinates bytes n row))
+
+  -- each row is within the bounds, since each place is one of bytes
   bounded : (row : Row) → Bounded points row
   unfolding rowD rowS rowQuality
   bounded row =
@@ -94,16 +108,19 @@ module _ (patch : Patch) (grid : T (not (coordinateOver patch))) where
       let q = place points (row .q) in
       let r = place points (row .r) in
       let s = place points (row .s) in
-      let hp = place-within patch grid (row .p) in
-      let hq = place-within patch grid (row .q) in
-      let hr = place-within patch grid (row .r) in
-      let hs = place-within patch grid (row .s) in
+      let hp = place-within coordinates bytes n (row .p) in
+      let hq = place-within coordinates bytes n (row .q) in
+      let hr = place-within coordinates bytes n (row .r) in
+      let hs = place-within coordinates bytes n (row .s) in
+      let small : Small (quality p q r s) = quality-small p q r s hp hq hr hs in
       record {
-        D-most = D-most-128 p q r s hp hq hr hs;
-        S-most = S-most-128 p q r s hp hq hr hs;
-        num-most = num-most-128 p q r s hp hq hr hs;
-        den-most = den-most-128 p q r s hp hq hr hs;
-        carries = record { num-small = num-below-53 p q r s hp hq hr hs; den-small = den-below-53 p q r s hp hq hr hs };
+        D-most = D-of-bytes p q r s hp hq hr hs;
+        S-most = S-of-bytes p q r s hp hq hr hs;
+        num-most = small .num-most;
+        den-most = small .den-most;
+        num-below = num-below-59 (quality p q r s) small;
+        den-below = den-below-59 (quality p q r s) small;
+        badness-most = row-badness-most row;
       }
 
   -- the score of a row's quality is that of its D and S
@@ -113,7 +130,7 @@ module _ (patch : Patch) (grid : T (not (coordinateOver patch))) where
   -- ---- the worst score
 
   fractions : Fractions qs
-  fractions q m = qualities-rows patch grid .consistent q m .fraction
+  fractions q m = qualities-rows coordinates bytes n rows .consistent q m .fraction
 
   -- of the worst of the qualities: it is that of a row
   worst-at : (q : Quality) → worst qs ≡ some q → WorstIs patch (scoreOf q)
@@ -161,7 +178,7 @@ module _ (patch : Patch) (grid : T (not (coordinateOver patch))) where
   }
 
   octave-at : 0 < count isUpright qs → OctaveOf qs (octaveOf (count isUpright qs) (totalBadness qs))
-  octave-at some-upright = octave-of-rows partLimit qs (lit< tt) (qualities-rows patch grid) some-upright
+  octave-at some-upright = octave-of-rows badnessLimit qs (lit< tt) (qualities-rows coordinates bytes n rows) some-upright
 
   octave-is : (e : ℕ) → OctaveOf qs e → OctaveIs patch e
   octave-is e o = record {
@@ -214,10 +231,19 @@ module _ (patch : Patch) (grid : T (not (coordinateOver patch))) where
 
 pub summary-of-block : Summarises ours
 unfolding ours fieldsOf
-summary-of-block block right =
-    let o = opens block right in
-    let grid = opens-measured block o .on-grid in
-    (summaryOf (fieldsOf block), summary-opened block o, sums (fieldsOf block) grid, λ row m. bounded (fieldsOf block) grid row)
+summary-of-block block bytes right =
+    let its = coordinatesOf block in
+    let own = part-bytes pointsAt rowsAt block bytes in
+    let n = pointCount block in
+    let rows = rowsIn (tableOf block) (rowCount block) in
+    (summaryOf (fieldsOf block), summary-opened block (opens block right), sums its own n rows, λ row m. bounded its own n rows row)
+
+pub sums-fit : SumsFit
+sums-fit bs few each = omega (arith, sum-most bs each, mul-le-mul-right maxBadness few)
+  where
+    sum-most : (xs : List ℕ) → ((b : ℕ) → List·Memᴰ b xs → b ≤ maxBadness) → sum xs ≤ length xs * maxBadness
+    sum-most [] h = omega arith
+    sum-most (x ∷ xs) h = omega (arith, h x (List·Memᴰ·head refl), sum-most xs (λ b m. h b (List·Memᴰ·tail m)))
 
 -- ---- one outcome
 
@@ -286,7 +312,7 @@ module _ (patch : Patch) {s t : Summary} (h : Sums patch s) (k : Sums patch t) w
   }
 
 pub one-summary : OneSummary
-one-summary k l hk hl block right =
-    let (s, given, sums, bounds) = hk block right in
-    let (t, given', sums', bounds') = hl block right in
+one-summary k l hk hl block bytes right =
+    let (s, given, sums, bounds) = hk block bytes right in
+    let (t, given', sums', bounds') = hl block bytes right in
     given ∙ ap Summed (sums-one (fieldsOf block) sums sums') ∙ sym given'

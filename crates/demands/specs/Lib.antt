@@ -7,3 +7,4 @@ pub mod Orders
 pub mod FlipWords
 pub mod Summaries
 pub mod Demands
+pub mod NearlyExact

@@ -1,5 +1,5 @@
 -- The summary of a block as a statement about any kernel: counts, worst score and octave by D and S of the rows, never by what a call
--- computes; and how large D, S, numerators and denominators get.
+-- computes; and how large D, S, numerators, denominators, badness and its sums get.
 use Prim.Native.Nat.{ℕ, suc, _+_, _*_, _^_, _≤_, _<_}
 use mathlib.Core.Bool.{Bool, not}
 use mathlib.Core.List.{List, [], map, List·Memᴰ}
@@ -9,7 +9,7 @@ use lib.Dec.{T}
 use lib.IntN.{ℤ, pos, natAbs}
 use lib.ListN.{length}
 use lib.Signed.{ltZ}
-use Rattle.lists.specs.Lists.{count, those, sum}
+use Rattle.lists.specs.Lists.{count, every, those, sum}
 use Rattle.volume.specs.declared.Point.{Point}
 use Rattle.score.specs.declared.Score.{Score}
 use Rattle.score.specs.declared.WorstScore.the-variants.{Worst, NoRows}
@@ -17,10 +17,10 @@ use Rattle.score.specs.declared.Octave.the-variants.{Exponent, NoUpright}
 use Rattle.volume.specs.Volume.{sameZ}
 use Rattle.quality.specs.Quality.{qualityFactor, worse}
 use Rattle.score.specs.Score.{lowestScore, highestScore, scoreFactor}
-use Rattle.page.specs.Page.{CarriesOver}
 use Rattle.rows.specs.declared.Row.{Row}
 use Rattle.rows.specs.RowMeasure.{rowD, rowS, rowQuality}
 use Rattle.layout.specs.Layout.{Patch, fieldsOf}
+use Rattle.layout.specs.Within.{isByte}
 use Rattle.block.specs.Holding.{RightBlock}
 use Rattle.summary.specs.declared.Summary.{Summary}
 use Rattle.calls.specs.declared.Summarised.the-variants.{Summary as Summed}
@@ -87,27 +87,42 @@ pub record OctaveIs (patch : Patch) (e : ℕ) : Type 0 where
   pub reached : 2 ^ e * length (uprights patch) ≤ total
   pub next : total < 2 ^ suc e * length (uprights patch)
 
--- ---- bounds, with coordinates up to 128
+-- ---- bounds, with coordinates up to 255
 
--- |D| is at most this: 2·128³
+-- |D| is at most this: 2·255³
 abbrev pub maxD : ℕ
-maxD = 4194304
+maxD = 33162750
 
--- S is at most this: 12·128²
+-- S is at most this: 12·255²
 abbrev pub maxS : ℕ
-maxS = 196608
+maxS = 780300
 
 -- a numerator 432·D² and a denominator S³ are at most this
 abbrev pub maxPart : ℕ
-maxPart = 27 * 2 ^ 48
+maxPart = 1728 * 255 ^ 6
 
--- |D|, S, and the numerator and the denominator of the quality are within them; the last two are below 2^53, so an f64 carries them
+-- the badness of an upright row is at most this
+abbrev pub maxBadness : ℕ
+maxBadness = 4 * 255 ^ 6
+
+-- |D|, S, the numerator and the denominator of the quality, and the badness of an upright row are within them; numerator and denominator
+-- are below 2^59
 pub record Bounded (points : List Point) (row : Row) : Type 0 where
   pub D-most : natAbs (rowD points row) ≤ maxD
   pub S-most : rowS points row ≤ maxS
   pub num-most : rowQuality points row .num ≤ maxPart
   pub den-most : rowQuality points row .den ≤ maxPart
-  pub carries : CarriesOver (rowQuality points row)
+  pub num-below : rowQuality points row .num < 2 ^ 59
+  pub den-below : rowQuality points row .den < 2 ^ 59
+  pub badness-most : T (over0 (rowD points row)) → (b : ℕ) → BadnessIs (rowD points row) (rowS points row) b → b ≤ maxBadness
+
+-- as many rows as 100 full blocks have
+abbrev pub manyRows : ℕ
+manyRows = 6000
+
+-- a sum of so many badnesses, each within its bound, fits 64 bits
+abbrev pub SumsFit : Type 0
+SumsFit = (bs : List ℕ) → length bs ≤ manyRows → ((b : ℕ) → List·Memᴰ b bs → b ≤ maxBadness) → sum bs < 2 ^ 63
 
 -- ---- the summary
 
@@ -123,14 +138,15 @@ pub record Sums (patch : Patch) (summary : Summary) : Type 0 where
   pub octave : (e : ℕ) → summary .octave ≡ Exponent e → OctaveIs patch e
   pub no-upright : (summary .octave ≡ NoUpright) ↔ (uprights patch ≡ [])
 
--- a kernel gives every right block its summary, and every row of it is within the bounds
+-- a kernel gives every right block of bytes its summary, and every row of it is within the bounds
 abbrev pub Summarises : Kernel → Type 0
 Summarises k =
-    (block : List ℕ) → RightBlock block
+    (block : List ℕ) → T (every isByte block) → RightBlock block
     → (summary : Summary) × (k .summary block ≡ Summed summary) × Sums (fieldsOf block) summary
     × ((row : Row) → List·Memᴰ row (fieldsOf block .rows) → Bounded (fieldsOf block .points) row)
 
 -- two kernels that do so give one summary: the statement admits one outcome
 abbrev pub OneSummary : Type 0
 OneSummary =
-    (k l : Kernel) → Summarises k → Summarises l → (block : List ℕ) → RightBlock block → k .summary block ≡ l .summary block
+    (k l : Kernel) → Summarises k → Summarises l → (block : List ℕ) → T (every isByte block) → RightBlock block
+    → k .summary block ≡ l .summary block

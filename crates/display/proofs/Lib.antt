@@ -1,3 +1,2 @@
-pub mod PageCanShow
 pub mod ElementsInOrder
 pub mod ShownRows

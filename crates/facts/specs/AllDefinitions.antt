@@ -14,7 +14,7 @@ use Rattle.rows.specs.Regions.{regionOf, mixed}
 use Rattle.rows.specs.Tetrahedra.{evenly, arrangedFrom}
 use Rattle.layout.specs.Layout.{fieldsOf, bodyOf, sumsOnto, sumBytes}
 use Rattle.layout.specs.Layout.{sumWrong}
-use Rattle.body.specs.Body.{zeroMissing, coordinateOver, numberWrong, bodyTests}
+use Rattle.body.specs.Body.{zeroMissing, numberWrong, bodyTests}
 use Rattle.answers.specs.Answers.{firstRefusal}
 use Rattle.block.specs.Opening.{openAnswer}
 use Rattle.links.specs.Links.{link, next}
@@ -44,7 +44,7 @@ unfolding
     rowIn rowsIn faces sameFace uses numbersFit facesApart keepsMeshRule rowD rowS rowQuality
     evenly arrangedFrom regionOf mixed
     fieldsOf bodyOf sumsOnto sumBytes
-    sumWrong zeroMissing coordinateOver numberWrong firstRefusal bodyTests openAnswer
+    sumWrong zeroMissing numberWrong firstRefusal bodyTests openAnswer
     link next walk smallest allClose circleOf heads follow chainOf siteOf flat numbersWrong whole linkOpen manyCircles edgeTests
     span triangles closingSides diagonals waysWithin twoRows newRows tableAfter
     admissible pieceAdmissible

@@ -4,9 +4,10 @@ use Prim.Native.Nat.{ℕ, _≤_}
 use mathlib.Core.Bool.{true, _&&_}
 use mathlib.Core.List.{[], _∷_, _++_, append-assoc}
 use mathlib.Core.Path.{_≡_, refl, ap, _∙_}
-use borrow.Author.Tests.{le-leb}
-use lib.Dec.{T, leb, lit≤}
-use Rattle.volume.specs.Volume.{maxCoordinate}
+use borrow.Author.Tests.{lt-ltb}
+use native.Mathlib.Omega.{arith}
+use lib.Dec.{T, ltb, lit≤}
+use Rattle.volume.specs.Steps.{largestByte}
 use Rattle.layout.specs.Layout.{Patch, fieldsOf, bytesOf}
 use Rattle.block.specs.Holding.{Holdable}
 use Rattle.answers.specs.Answers.{Tests, firstRefusal}
@@ -40,12 +41,12 @@ answer-of patch kept e f =
 -- ---- block A with its sixth point
 
 -- a block may hold it, with and without the row of fact 8
-kept-at : (x y z : ℕ) → x ≤ maxCoordinate → y ≤ maxCoordinate → z ≤ maxCoordinate
+kept-at : (x y z : ℕ) → x ≤ largestByte → y ≤ largestByte → z ≤ largestByte
     → Holdable (sixthAt x y z []) × Holdable (sixthAt x y z (row 5 2 3 4 ∷ []))
 unfolding blockAWith definitions
 kept-at x y z hx hy hz =
-    let placed : T (leb x maxCoordinate && (leb y maxCoordinate && (leb z maxCoordinate && true))) =
-    rw (le-leb x maxCoordinate hx, le-leb y maxCoordinate hy, le-leb z maxCoordinate hz) tt in (
+    let placed : T (ltb x 256 && (ltb y 256 && (ltb z 256 && true))) =
+    rw (lt-ltb x 256 (omega arith), lt-ltb y 256 (omega arith), lt-ltb z 256 (omega arith)) tt in (
       record { within = record { few-points = lit≤ tt; few-rows = lit≤ tt; coordinates = placed; bytes = tt }; rule = tt },
       record { within = record { few-points = lit≤ tt; few-rows = lit≤ tt; coordinates = placed; bytes = tt }; rule = tt },
     )

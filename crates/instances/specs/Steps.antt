@@ -24,7 +24,7 @@ bodyWith i byte = set (bodyOf blockA) i byte
 abbrev pub Cases : Type 0 → Type 0
 Cases X = List (ℕ × X)
 
--- 1 to 8
+-- 1 to 5, 7 and 8
 unfoldable pub wrongBlocks : Cases (List ℕ)
 wrongBlocks =
     -- no byte at all
@@ -37,19 +37,17 @@ wrongBlocks =
     ∷ (4, sealed (bodyWith 1 65))
     -- 1 in a byte that must be zero
     ∷ (5, sealed (bodyWith 3 1))
-    -- coordinate 129
-    ∷ (6, bytesOf (blockAWith (at 4 4 129) [] []))
     -- a row with point 5 of five points
     ∷ (7, bytesOf (withRows (row 2 3 4 5 ∷ [])))
     -- the first row twice
     ∷ (8, bytesOf (withRows (row 0 1 2 3 ∷ [])))
     ∷ []
 
--- 0 to 8 of opening and of the summary
+-- the same and 0, of opening and of the summary
 unfoldable pub openCases : Cases (List ℕ)
 openCases = (0, bytesOf blockA) ∷ wrongBlocks
 
--- 0, 1 and 3 to 8 of sealing: the same without their sums
+-- 0, 1, 3 to 5, 7 and 8 of sealing: the same without their sums
 unfoldable pub sealCases : Cases (List ℕ)
 sealCases = (0, bodyOf blockA) ∷ (1, []) ∷ map (λ c. (c .0, take bodyBytes (c .1))) (drop 2 wrongBlocks)
 
@@ -70,7 +68,7 @@ twoRings = record {
 unfoldable pub mixedA : Patch
 mixedA = record { points = blockA .points; rows = row 0 1 2 3 ∷ row 0 1 3 4 ∷ rowOf 8 4 2 ∷ [] }
 
--- 0 to 10, 12, 20 and 15, which a removal and a 3-2 flip share
+-- those of opening, 9, 10, 12, 20 and 15, which a removal and a 3-2 flip share
 unfoldable pub edgeCases : Cases Edge
 edgeCases =
     map (λ c. (c .0, (c .1, 0, 1))) openCases
@@ -127,7 +125,7 @@ bothWays = record { points = blockA .points; rows = row 0 1 2 3 ∷ row 1 0 2 3 
 abbrev longStrip : Patch
 longStrip = record { points = sixtyFour []; rows = strip 0 60 }
 
--- 0 to 11, 14, 15, 18 and 20
+-- those of opening, 9 to 11, 14, 15, 18 and 20
 unfoldable pub flip23Cases : Cases Face
 flip23Cases =
     map (λ c. (c .0, (c .1, 2, 3, 4))) wrongBlocks
@@ -148,6 +146,6 @@ flip23Cases =
 
 -- ---- neither an edge nor a face
 
--- 1 to 8 and 21
+-- those of opening but 0, and 21
 unfoldable pub otherCases : Cases (List ℕ)
 otherCases = (21, bytesOf blockA) ∷ wrongBlocks

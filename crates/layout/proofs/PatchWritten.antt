@@ -5,17 +5,17 @@ use mathlib.Core.List.{List, [], _∷_, _++_, flatMap, append-assoc}
 use mathlib.Core.Path.{_≡_, refl, ap, _∙_}
 use native.Mathlib.Omega.{arith}
 use borrow.Author.Tests.{lt-ltb}
-use lib.Dec.{T, ltb, leb→le, lt→ltb}
+use lib.Dec.{T, ltb}
 use lib.ListN.{length, take, replicate, length-append}
 use Rattle.lists.specs.Lists.{every}
-use Rattle.lists.proofs.Lists.{every-both, every-replicate, every-weaken}
-use Rattle.volume.specs.Volume.{maxCoordinate, pointSize, pointBytes}
+use Rattle.lists.proofs.Lists.{every-both, every-replicate}
+use Rattle.volume.specs.Volume.{pointSize, pointBytes}
 use Rattle.volume.proofs.PointsInBytes.{points-length}
 use Rattle.rows.specs.Rows.{rowSize, rowBytes}
 use Rattle.rows.proofs.RowsOfTables.{rows-length}
 use Rattle.layout.specs.Layout.{Patch, bodyBytes, blockBytes, theVersion, maxPoints, maxRows, zerosAt, pointsAt, rowsAt, version}
 use Rattle.layout.specs.Layout.{pointCount, rowCount, part, coordinatesOf, tableOf, fieldsOf, filled, bodyOf, sumBytes, bytesOf}
-use Rattle.layout.specs.Within.{onGrid, isByte, Within}
+use Rattle.layout.specs.Within.{isByte, Within}
 use Rattle.layout.proofs.CellsReadBack.{point-cells, row-cells, written-length, points-read, rows-read, points-written, rows-written}
 use Rattle.layout.proofs.BlockParts.{filled-length, part-length, part-at}
 use Rattle.layout.proofs.SumLaws.{sum-bytes-length, sum-bytes}
@@ -112,10 +112,8 @@ unfolding bodyOf
 bytes-written patch within =
     let points = patch .points in
     let rows = patch .rows in
-    let small : (x : ℕ) → T (onGrid x) → T (isByte x) = λ x h. lt→ltb x 256 (omega (arith, leb→le x maxCoordinate h)) in
     let head = filled-bytes pointsAt _ (head-bytes (length points) (length rows) (within .few-points) (within .few-rows)) in
-    let coordinates =
-    filled-bytes 192 (flatMap pointBytes points) (every-weaken onGrid isByte small (flatMap pointBytes points) (within .coordinates)) in
+    let coordinates = filled-bytes 192 (flatMap pointBytes points) (within .coordinates) in
     let table = filled-bytes 300 (flatMap rowBytes rows) (within .bytes) in
     every-both isByte (bodyOf patch) (sumBytes (bodyOf patch)) (every-both isByte _ _ (every-both isByte _ _ head coordinates) table)
     (sum-bytes (bodyOf patch))

@@ -2,10 +2,10 @@
 use Prim.Native.Nat.{ℕ, _-_, _≤_}
 use mathlib.Core.Bool.{Bool}
 use mathlib.Core.List.{flatMap}
-use lib.Dec.{T, leb, ltb}
+use lib.Dec.{T, ltb}
 use lib.ListN.{length}
 use Rattle.lists.specs.Lists.{every}
-use Rattle.volume.specs.Volume.{maxCoordinate, pointBytes}
+use Rattle.volume.specs.Volume.{pointBytes}
 use Rattle.rows.specs.Rows.{rowBytes}
 use Rattle.layout.specs.Layout.{Patch, maxPoints, maxRows}
 
@@ -13,13 +13,9 @@ use Rattle.layout.specs.Layout.{Patch, maxPoints, maxRows}
 abbrev pub isByte : ℕ → Bool
 isByte x = ltb x 256
 
--- x, y, z, each 0 to 128
-abbrev pub onGrid : ℕ → Bool
-onGrid x = leb x maxCoordinate
-
--- A patch within the limits: 0 to 64 points, 0 to 60 rows, x, y, z each 0 to 128, four point numbers and the region 0 to 255.
+-- A patch within the limits: 0 to 64 points, 0 to 60 rows, x, y, z each 0 to 255, four point numbers and the region 0 to 255.
 pub record Within (patch : Patch) : Type 0 where
   pub few-points : length (patch .points) ≤ maxPoints
   pub few-rows : length (patch .rows) ≤ maxRows
-  pub coordinates : T (every onGrid (flatMap pointBytes (patch .points)))
+  pub coordinates : T (every isByte (flatMap pointBytes (patch .points)))
   pub bytes : T (every isByte (flatMap rowBytes (patch .rows)))

@@ -15,7 +15,6 @@ use Rattle.rows.specs.Rows.{rowsIn}
 use Rattle.mesh.specs.Mesh.{numbersFit}
 use Rattle.mesh.proofs.MeshRuleStated.{keeps-fits}
 use Rattle.layout.specs.Layout.{Patch, maxRows, pointCount, rowCount, coordinatesOf, tableOf, fieldsOf}
-use Rattle.body.specs.Body.{coordinateOver}
 use Rattle.tally.specs.Steps.{Measured}
 use Rattle.tally.specs.Tally.{patchIn, worstOfPatch}
 use Rattle.ring.specs.declared.Ring.{Ring}
@@ -62,7 +61,7 @@ module _ (block : List ℕ) (e f : ℕ) {closed : Bool} {ring : Ring} {region : 
 
     -- the rows afterwards can be measured
     pub measured : Measured (coordinatesOf block) (pointCount block) rows n
-    unfolding siteOf coordinateOver
+    unfolding siteOf
     measured =
         let size : length rows ≡ tableBytes = ap length rows-is ∙ table-size after few in
         let fit = keeps-fits (length (its .points)) after
@@ -73,7 +72,6 @@ module _ (block : List ℕ) (e f : ℕ) {closed : Bool} {ring : Ring} {region : 
           points-held = now .points-held;
           rows-held = omega (arith, size, n-is, few);
           rows-most = omega (arith, n-is, few);
-          on-grid = now .on-grid;
           proper = rw read own;
         }
 

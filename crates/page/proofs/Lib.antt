@@ -1,1 +1,3 @@
-pub mod RoundedOnce
+pub mod RoundedClose
+pub mod ThreeRoundings
+pub mod NearlyExact

@@ -1,5 +1,5 @@
 -- Requirement §4.4 and §4.5: what the page shows.
-use Prim.Native.Nat.{ℕ, _<_, _^_}
+use Prim.Native.Nat.{ℕ}
 use mathlib.Core.Bool.{false}
 use lib.IntN.{pos}
 use lib.Ieee as Ieee
@@ -10,12 +10,7 @@ use Rattle.page.specs.declared.Shown.{Shown}
 use Rattle.page.specs.declared.Shown.the-variants as Shows
 use Rattle.page.specs.declared.PageRow.{PageRow}
 
--- both whole numbers are below 2^53, so f64 holds them
-pub record CarriesOver (q : Quality) : Type 0 where
-  pub num-small : q .num < 2 ^ 53
-  pub den-small : q .den < 2 ^ 53
-
--- the single quotient of the two whole numbers, both carried over to f64
+-- the single quotient of the two whole numbers, both carried over to f64, each rounded to the nearest
 unfoldable pub quotient : ℕ → ℕ → Float
 quotient n d = Ieee.div binary64 (Ieee.ofInt binary64 (pos n)) (Ieee.ofInt binary64 (pos d))
 

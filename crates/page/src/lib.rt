@@ -1,7 +1,8 @@
 // What the page shows: one f64 of a quality, and the record of a removal.
 ghost use mathlib.Core.Path.{_≡_};
-ghost use Prim.Native.Nat.{_<_, _^_};
-ghost use Rattle.page.specs.Page.{CarriesOver, pageRow, quotient, shown, signedSize};
+ghost use Prim.Native.Nat.{_<_};
+ghost use Rattle.page.specs.Near.{ShownNear};
+ghost use Rattle.page.specs.Page.{pageRow, quotient, shown, signedSize};
 use quality::Kind;
 use quality::Quality;
 
@@ -14,25 +15,26 @@ pub enum Shown {
     Inverted(f64),
 }
 
-// The single quotient of two whole numbers that f64 holds.
+// The single quotient of two whole numbers, each rounded to the nearest f64 first.
 fn quotient(num: u64, den: u64) -> f64
-    requires { ⌜ (num < 2 ^ 53) × (den < 2 ^ 53) ⌝ }
     ensures { λ r. ⌜ r ≡ quotient num den ⌝ }
 {
-    num as f64 / den as f64
+    std::num::nearest_u64_to_f64(num) / std::num::nearest_u64_to_f64(den)
 }
 
 impl Shown {
     // What the page shows of a quality.
     pub fn of(quality: Quality) -> Shown
-        requires { ⌜ CarriesOver quality ⌝ }
-        ensures { λ r. ⌜ r ≡ shown quality ⌝ }
+        ensures value { λ r. ⌜ r ≡ shown quality ⌝ }
+        ensures near { λ r. ⌜ (0 < quality .den → ShownNear quality (signedSize r)) ⌝ }
     {
+        let num = quality.num();
+        let den = quality.den();
         let kind = quality.kind();
         match kind {
-            Kind::Upright => Shown::Upright(quotient(quality.num(), quality.den())),
+            Kind::Upright => Shown::Upright(quotient(num, den)),
             Kind::Flat => Shown::Flat,
-            Kind::Inverted => Shown::Inverted(quotient(quality.num(), quality.den())),
+            Kind::Inverted => Shown::Inverted(quotient(num, den)),
         }
     }
 

@@ -25,13 +25,16 @@ pub record Consistent (q : Quality) : Type 0 where
 abbrev pub of-kind : Kind → Quality → Quality
 of-kind k q = record { kind = k; num = q .num; den = q .den }
 
-pub upright-size : (q : Quality) → Consistent q → T (isUpright q) → 0 < q .num
-upright-size q p u = p .size (go (q .kind) u)
+pub upright-not-flat : (q : Quality) → T (isUpright q) → T (not (isFlat q))
+upright-not-flat q = go (q .kind)
   where
     go : (k : Kind) → T (isUpright (of-kind k q)) → T (not (isFlat (of-kind k q)))
     go Upright t = tt
     go Flat t = absurd t
     go Inverted t = absurd t
+
+pub upright-size : (q : Quality) → Consistent q → T (isUpright q) → 0 < q .num
+upright-size q p u = p .size (upright-not-flat q u)
 
 -- every quality of four places is consistent
 

@@ -6,16 +6,14 @@ use mathlib.Core.List.{List, _++_}
 use mathlib.Core.Option.{Option, none, some}
 use mathlib.Core.Path.{_≡_, refl}
 use native.Mathlib.Omega.{arith}
-use borrow.Author.Tests.{ltb-true, ltb-false}
 use mir.Syntax.{w8}
 use mir.Val.{Fits}
 use lib.Dec.{T, eqb, ltb, leb, lt→ltb, ltb→lt}
-use lib.ListN.{length, take, drop, length-append, length-map, length-take, length-drop, List·getD-eq-default}
+use lib.ListN.{length, take, drop, length-append, length-map, length-take, length-drop}
 use Rattle.lists.specs.Lists.{every, largest, count}
 use Rattle.lists.proofs.Counts.{count-most}
-use Rattle.lists.proofs.Lists.{every-at, every-i, every-take, every-drop, every-weaken}
+use Rattle.lists.proofs.Lists.{every-i, every-drop, every-weaken}
 use Rattle.lists.proofs.Numbers.{largest-within}
-use Rattle.lists.proofs.Places.{at-in, in-at}
 use Rattle.lists.proofs.Tests.{yes-is}
 use Rattle.quality.specs.declared.Quality.{Quality}
 use Rattle.score.specs.declared.WorstScore.the-variants.{Worst, NoRows}
@@ -27,6 +25,7 @@ use Rattle.rows.specs.RowMeasure.{rowQuality}
 use Rattle.rows.proofs.RowsOfTables.{among-rows}
 use Rattle.layout.specs.Layout.{bodyBytes, rowsAt, byte, rowCount, tableOf, fieldsOf}
 use Rattle.layout.specs.Within.{isByte}
+use Rattle.layout.proofs.BytesOfSlices.{all-bytes, byte-most, part-bytes}
 use Rattle.layout.proofs.PatchWritten.{rows-counted}
 use Rattle.block.specs.Opening.{openAnswer}
 use Rattle.block.proofs.RightBlocks.{right-block}
@@ -98,19 +97,11 @@ first-short block output before after =
 
 -- ---- the last rows
 
--- what a slice of bytes holds
-all-bytes : (xs : List ℕ) → ((i : ℕ) → Fits w8 (byte xs i)) → T (every isByte xs)
-all-bytes xs f = every-i isByte xs λ x k. let (i, h, e) = in-at xs 0 k in rw e at (lt→ltb (byte xs i) 256 (f i .fits))
-
 three : (n : ℕ) → T (isByte n) → T (small n)
 three n h = lt→ltb n 1000 (omega (arith, ltb→lt n 256 h))
 
 byte-small : (xs : List ℕ) → T (every isByte xs) → (i : ℕ) → T (small (byte xs i))
-byte-small xs h i = go (ltb i (length xs)) refl
-  where
-    go : (b : Bool) → ltb i (length xs) ≡ b → T (small (byte xs i))
-    go true e = every-at small xs (every-weaken isByte small three xs h) (at-in xs i 0 (ltb-true i (length xs) e))
-    go false e = rw (List·getD-eq-default xs 0 (ltb-false i (length xs) e)) tt
+byte-small xs h i = lt→ltb (byte xs i) 1000 (omega (arith, byte-most xs h i))
 
 -- the rows of a block of bytes
 row-small : (table : List ℕ) → T (every isByte table) → (i : ℕ) → T (smallRow (rowIn table i))
@@ -123,8 +114,7 @@ rows-small : (block : List ℕ) → T (every isByte block) → T (every smallRow
 unfolding fieldsOf
 rows-small block bytes = every-i smallRow (fieldsOf block .rows) λ row k.
     let (i, h, is) = among-rows (tableOf block) (rowCount block) k in
-    let table = every-take isByte (bodyBytes - rowsAt) (drop rowsAt block) (every-drop isByte rowsAt block bytes) in
-    rw is (row-small (tableOf block) table i)
+    rw is (row-small (tableOf block) (part-bytes rowsAt bodyBytes block bytes) i)
 
 last-short : (output : List ℕ) (n : ℕ) → ((i : ℕ) → Fits w8 (byte output i)) → n ≤ rowCount output
     → length (lastLines n output) ≤ 24 * n

@@ -5,10 +5,11 @@ use mathlib.Core.List.{List, [], _∷_, _++_}
 use mathlib.Core.Path.{_≡_, refl, subst}
 use lib.Dec.{T, lit≤}
 use lib.ListN.{length}
-use Rattle.lists.specs.Lists.{those}
+use Rattle.lists.specs.Lists.{every, those}
 use Rattle.quality.specs.Quality.{worse}
 use Rattle.rows.specs.Rows.{holdsEdge}
 use Rattle.layout.specs.Layout.{maxRows, fieldsOf, bytesOf}
+use Rattle.layout.specs.Within.{isByte}
 use Rattle.block.specs.Opening.{openAnswer}
 use Rattle.ring.specs.Ring.{Site, siteOf, m}
 use Rattle.triangulation.specs.Triangulation.{side, cut, newRows, tableAfter}
@@ -36,6 +37,10 @@ premises-with block closed vs given c r =
 pub opens-A : openAnswer (bytesOf blockA) ≡ 0
 unfolding blockAWith blockA definitions
 opens-A = refl
+
+pub bytes-A : T (every isByte (bytesOf blockA))
+unfolding blockAWith blockA definitions
+bytes-A = tt
 
 pub done-A : removeAnswer (bytesOf blockA) blank 0 1 ≡ 0
 unfolding blockAWith blockA definitions
@@ -82,6 +87,10 @@ premises-A = premises-with (bytesOf blockA) true (2 ∷ 3 ∷ 4 ∷ []) found-A 
 pub opens-octahedron : openAnswer (bytesOf octahedron) ≡ 0
 unfolding octahedron definitions
 opens-octahedron = refl
+
+pub bytes-octahedron : T (every isByte (bytesOf octahedron))
+unfolding octahedron definitions
+bytes-octahedron = tt
 
 pub upright-octahedron : length (uprights (fieldsOf (bytesOf octahedron))) ≡ 4
 unfolding octahedron definitions

@@ -34,8 +34,8 @@ use Rattle.facts.specs.Facts.{blank, blockA, octahedron}
 use Rattle.plate.specs.Plate.{plate}
 use Rattle.rivals.specs.Useless.{refusing, fixing, copying, inventing}
 use Rattle.rivals.specs.Useless.{fanning, fanFirst, fanLast, fanned, givenBy, answered, six, sixBest}
-use Rattle.rivals.proofs.RivalBlocks.{opens-A, done-A, points-A, rows-A, left-A, upright-A, premises-A}
-use Rattle.rivals.proofs.RivalBlocks.{opens-octahedron, upright-octahedron, done-plate, points-plate}
+use Rattle.rivals.proofs.RivalBlocks.{opens-A, bytes-A, done-A, points-A, rows-A, left-A, upright-A, premises-A}
+use Rattle.rivals.proofs.RivalBlocks.{opens-octahedron, bytes-octahedron, upright-octahedron, done-plate, points-plate}
 use Rattle.rivals.proofs.RivalBlocks.{sixSite, premises-six, two-six, best-six, alone-six, opens-six, done-six}
 use Rattle.rivals.proofs.RivalBlocks.{first-room, first-worse, last-room, last-worse}
 
@@ -80,8 +80,8 @@ uprightIn (NoSummary n) = 0
 
 pub invented-counts : (upright flat inverted : ℕ) → Demand2 (inventing upright flat inverted) → ⊥
 invented-counts upright flat inverted meets =
-    let (s, given, sums, bounds) = meets .summary (bytesOf blockA) (right-block (bytesOf blockA) opens-A) in
-    let (t, given', sums', bounds') = meets .summary (bytesOf octahedron) (right-block (bytesOf octahedron) opens-octahedron) in
+    let (s, given, sums, bounds) = meets .summary (bytesOf blockA) bytes-A (right-block (bytesOf blockA) opens-A) in
+    let (t, given', sums', bounds') = meets .summary (bytesOf octahedron) bytes-octahedron (right-block (bytesOf octahedron) opens-octahedron) in
     let three = rw opens-A at (ap uprightIn given) in
     let four = rw opens-octahedron at (ap uprightIn given') in
     omega (arith, three, four, sums .upright, sums' .upright, upright-A, upright-octahedron)

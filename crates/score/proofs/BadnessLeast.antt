@@ -3,7 +3,7 @@
 use Prim.Native.Nat.{ℕ, zero, suc, _*_, _≤_, _<_}
 use mathlib.Core.Bool.{cond, not}
 use mathlib.Core.Path.{_≡_, refl, sym, ap, _∙_, subst}
-use native.Mathlib.Nat.{mul-comm, mul-le-mul-left}
+use native.Mathlib.Nat.{le-trans, mul-comm, mul-le-mul-left}
 use native.Mathlib.Omega.{arith}
 use lib.Dec.{T}
 use Rattle.exact.specs.Fractions.{roundedUp}
@@ -32,9 +32,9 @@ module _ (q : Quality) (u : T (isUpright q)) (p : 0 < q .num) where
   pub badness-least : (b : ℕ) → q .den ≤ b * q .num → added (badness q) ≤ b
   badness-least b h = rw (badness-upright q u) (least (q .den) (q .num) p b h)
 
-  -- the denominator is enough
-  pub badness-within : added (badness q) ≤ q .den
-  badness-within = badness-least (q .den) (omega (arith, mul-le-mul-left (q .den) p))
+  -- what is enough for a smaller numerator is enough
+  pub badness-within : (b n : ℕ) → n ≤ q .num → q .den ≤ b * n → added (badness q) ≤ b
+  badness-within b n l h = badness-least b (le-trans h (mul-le-mul-left b l))
 
   pub badness-over : 0 < q .den → 1 ≤ added (badness q)
   badness-over d = go (added (badness q)) badness-enough

@@ -1,6 +1,5 @@
 -- For 1 ≤ n ≤ total the octave e is the one number with 2^e·n ≤ total < 2^(e+1)·n, as long as total is below 2^64·n: the
--- limit of the search does not bind. It never does for upright rows with denominators to 2^63: each adds 1 at least, and
--- its denominator at most.
+-- limit of the search does not bind. It never does for upright rows with a badness of 1 to 2^63.
 use Prim.Native.Nat.{ℕ, suc, _+_, _*_, _^_, _≤_, _<_}
 use mathlib.Core.Bool.{Bool, true, false, cond}
 use mathlib.Core.List.{List, [], _∷_, List·Memᴰ, List·Memᴰ·head, List·Memᴰ·tail}
@@ -19,7 +18,7 @@ use Rattle.score.specs.declared.Octave.the-variants.{Exponent, NoUpright
 use Rattle.quality.specs.Quality.{isUpright}
 use Rattle.score.specs.Score.{badness, added, totalBadness, octaveLimit, octaveOf, octave}
 use Rattle.quality.proofs.ConsistentQualities.{Consistent, upright-size}
-use Rattle.score.proofs.BadnessLeast.{badness-other, badness-within, badness-over}
+use Rattle.score.proofs.BadnessLeast.{badness-other, badness-over}
 
 -- 2^e·n is at most the total
 abbrev pub doubles : ℕ → ℕ → ℕ → Bool
@@ -79,13 +78,13 @@ module _ (n total : ℕ) where
 
 -- ---- the octave of some rows
 
--- each is consistent, with a denominator of the bound at most
+-- each is consistent, and adds the bound at most
 pub record Rows (bound : ℕ) (qs : List Quality) : Type 0 where
   pub consistent : (q : Quality) → List·Memᴰ q qs → Consistent q
-  pub den-small : (q : Quality) → List·Memᴰ q qs → q .den ≤ bound
+  pub bounded : (q : Quality) → List·Memᴰ q qs → added (badness q) ≤ bound
 
 rest : {bound : ℕ} {q : Quality} {qs : List Quality} → Rows bound (q ∷ qs) → Rows bound qs
-rest rows = record { consistent = λ r m. rows .consistent r (List·Memᴰ·tail m); den-small = λ r m. rows .den-small r (List·Memᴰ·tail m) }
+rest rows = record { consistent = λ r m. rows .consistent r (List·Memᴰ·tail m); bounded = λ r m. rows .bounded r (List·Memᴰ·tail m) }
 
 -- the upright rows add 1 each at least, and the bound at most
 pub total-bounds :
@@ -115,8 +114,7 @@ total-bounds bound (q ∷ qs) rows = go (isUpright q) refl (total-bounds bound q
         let u : T (isUpright q) = is-yes (isUpright q) e in
         let size : 0 < q .num = upright-size q p u in
         let low = badness-over q u size (p .fraction .over) in
-        let high = badness-within q u size in
-        let small = rows .den-small q (List·Memᴰ·head refl) in
+        let high = rows .bounded q (List·Memᴰ·head refl) in
         (omega arith, omega arith)
     go false e bounds =
         let none : added (badness q) ≡ 0 = ap added (badness-other q (is-no (isUpright q) e)) in

@@ -6,8 +6,9 @@ use mathlib.Core.Option.{Option, none, some}
 use mathlib.Core.Path.{_≡_, refl, sym, ap, _∙_, subst}
 use native.Mathlib.Nat.{add-zero}
 use native.Mathlib.Omega.{arith}
+use lib.Dec.{T}
 use lib.ListN.{length, length-map}
-use Rattle.lists.specs.Lists.{count, those}
+use Rattle.lists.specs.Lists.{count, every, those}
 use Rattle.lists.proofs.Counts.{count-append, count-most}
 use Rattle.quality.specs.declared.Kind.{Kind}
 use Rattle.quality.specs.declared.Kind.the-variants.{Upright, Flat, Inverted}
@@ -23,11 +24,10 @@ use Rattle.rows.specs.Rows.{rowIn, rowsIn}
 use Rattle.rows.specs.RowMeasure.{rowQuality}
 use Rattle.rows.proofs.RowsOfTables.{rows-length}
 use Rattle.layout.specs.Layout.{Patch}
-use Rattle.body.specs.Body.{coordinateOver}
+use Rattle.layout.specs.Within.{isByte}
 use Rattle.summary.specs.declared.Counts.{Counts}
 use Rattle.summary.specs.declared.Tally.{Tally}
 use Rattle.tally.specs.Steps.{Measured}
-use Rattle.tally.specs.Tally.{patchIn}
 use Rattle.summary.specs.Steps.{countWith, tallyWith, tallied, scoreMet, Unwrapped}
 use Rattle.tally.specs.Tally.{qualities}
 use Rattle.summary.specs.Summary.{summaryOf}
@@ -102,7 +102,8 @@ pub row-tally :
 row-tally f table i = sym (tally-more (map f (rowsIn table i)) (f (rowIn table i))) ∙ ap tallyOf (sym (qualities-more f table i))
 
 -- nothing wraps with any of the rows that are measured
-module _ {coordinates : List ℕ} {count : ℕ} {table : List ℕ} {n : ℕ} (m : Measured coordinates count table n) (i : ℕ) (h : i < n) where
+module _ {coordinates : List ℕ} {count : ℕ} {table : List ℕ} {n : ℕ} (m : Measured coordinates count table n)
+    (bytes : T (every isByte coordinates)) (i : ℕ) (h : i < n) where
   abbrev quality : Row → Quality
   quality = rowQuality (pointsIn coordinates count)
 
@@ -115,14 +116,15 @@ module _ {coordinates : List ℕ} {count : ℕ} {table : List ℕ} {n : ℕ} (m 
       omega arith
 
   pub unwrapped : Unwrapped (tallyOf (map quality (rowsIn table i))) (quality (rowIn table i))
-  unfolding tallyOf coordinateOver
+  unfolding tallyOf
   unwrapped =
       record {
         upright = few isUpright;
         flat = few isFlat;
         inverted = few isInverted;
         total =
+            let fits = total-fits coordinates bytes count (rowsIn table (suc i)) (omega (arith, rows-length table (suc i), m .rows-most)) in
             subst (λ t. t < 2 ^ 64)
             (ap totalBadness (qualities-more quality table i) ∙ badness-more (map quality (rowsIn table i)) (quality (rowIn table i)))
-            (total-fits (patchIn coordinates count table (suc i)) (m .on-grid) (omega (arith, rows-length table (suc i), m .rows-most)));
+            (omega (arith, fits));
       }

@@ -1,4 +1,4 @@
 pub mod MeasuredRows
 pub mod WorstRowByRow
-pub mod RowsOnGrid
+pub mod RowsInBytes
 pub mod OpensMeasured

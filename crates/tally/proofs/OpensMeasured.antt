@@ -1,22 +1,16 @@
 -- What a block that opens gives the code: counts within the limits, whole parts, and a table that can be measured.
 use Prim.Native.Nat.{ℕ, _-_, _≤_}
-use mathlib.Core.Bool.{false}
-use mathlib.Core.List.{List, flatMap}
+use mathlib.Core.List.{List}
 use mathlib.Core.Path.{_≡_, subst}
 use native.Mathlib.Omega.{arith}
-use borrow.Author.Tests.{le-ltb}
-use lib.Dec.{T, ltb, leb→le}
+use lib.Dec.{T}
 use lib.ListN.{length}
-use Rattle.lists.proofs.Lists.{every-none}
-use Rattle.volume.specs.Volume.{maxCoordinate, pointBytes}
 use Rattle.rows.specs.Rows.{rowsIn}
 use Rattle.mesh.specs.Mesh.{keepsMeshRule}
 use Rattle.mesh.proofs.MeshRuleStated.{keeps-fits}
 use Rattle.layout.specs.Layout.{blockBytes, bodyBytes, maxPoints, maxRows, pointsAt, rowsAt, pointCount, rowCount, coordinatesOf, tableOf}
 use Rattle.layout.specs.Layout.{fieldsOf}
-use Rattle.body.specs.Body.{coordinateOver}
 use Rattle.block.specs.Opening.{openAnswer}
-use Rattle.layout.specs.Within.{onGrid}
 use Rattle.block.specs.Holding.{RightBlock}
 use Rattle.layout.proofs.BlockParts.{part-length}
 use Rattle.block.proofs.RightBlocks.{right-block}
@@ -46,19 +40,10 @@ module _ (block : List ℕ) (opens : openAnswer block ≡ 0) where
   unfolding fieldsOf
   rule-kept = subst (λ n. T (keepsMeshRule n (fieldsOf block .rows))) (points-counted block) (right .body .rule)
 
-  none-over : coordinateOver (fieldsOf block) ≡ false
-  unfolding coordinateOver
-  none-over =
-      every-none (ltb maxCoordinate) onGrid (λ x k. le-ltb maxCoordinate x (leb→le x maxCoordinate k))
-      (flatMap pointBytes (fieldsOf block .points))
-      (right .body .coordinates)
-
   pub opens-measured : Measured (coordinatesOf block) (pointCount block) (tableOf block) (rowCount block)
-  unfolding fieldsOf
   opens-measured = record {
     points-held = omega (arith, coordinates-size, few-points);
     rows-held = omega (arith, rows-size, few-rows);
     rows-most = omega (arith, few-rows);
-    on-grid = rw none-over tt;
     proper = keeps-fits (pointCount block) (rowsIn (tableOf block) (rowCount block)) rule-kept;
   }

@@ -1,6 +1,5 @@
 -- What only contracts of inner functions and proofs say: bytes that can be measured, and the worst of the qualities met so far.
 use Prim.Native.Nat.{ℕ, _*_, _≤_, _<_}
-use mathlib.Core.Bool.{not}
 use mathlib.Core.List.{List}
 use lib.Dec.{T}
 use lib.ListN.{length}
@@ -10,12 +9,10 @@ use Rattle.rows.specs.declared.Row.{Row}
 use Rattle.rows.specs.Steps.{mostRows}
 use Rattle.rows.specs.Rows.{rowSize, rowsIn}
 use Rattle.mesh.specs.Mesh.{numbersFit}
-use Rattle.body.specs.Body.{coordinateOver}
 use Rattle.quality.specs.declared.Quality.{Quality}
 use Rattle.quality.specs.Quality.{zeroQuality, worseOf}
 use Rattle.tally.specs.declared.Met.{Met}
 use Rattle.tally.specs.declared.Met.the-variants.{Nothing, Worst}
-use Rattle.tally.specs.Tally.{patchIn}
 
 -- The coordinates hold the points, and the four numbers of the row are those of points.
 pub record Placed (coordinates : List ℕ) (count : ℕ) (row : Row) : Type 0 where
@@ -25,12 +22,11 @@ pub record Placed (coordinates : List ℕ) (count : ℕ) (row : Row) : Type 0 wh
   pub below-r : row .r < count
   pub below-s : row .s < count
 
--- The coordinates hold the points, none of them over 128; the table holds the rows, and their numbers are proper.
+-- The coordinates hold the points, the table holds the rows, and their numbers are proper.
 pub record Measured (coordinates : List ℕ) (count : ℕ) (table : List ℕ) (n : ℕ) : Type 0 where
   pub points-held : pointSize * count ≤ length coordinates
   pub rows-held : rowSize * n ≤ length table
   pub rows-most : n ≤ mostRows
-  pub on-grid : T (not (coordinateOver (patchIn coordinates count table n)))
   pub proper : T (every (numbersFit count) (rowsIn table n))
 
 -- the worst with one more quality; of equals the earlier one stays

@@ -10,7 +10,7 @@ use Rattle.algebra.proofs.Normal.{Expr, var, con, _:+_, _:-_, _:*_, eval, norm}
 use Rattle.algebra.proofs.Order.{NonNeg, _⊞_, _⊠_, square, number, given, gap, nn-pos, pos-mul, le-by, le-by-times}
 use Rattle.volume.specs.declared.Point.{Point}
 use Rattle.volume.specs.Steps.{largestByte, volumeLimit, spreadLimit}
-use Rattle.volume.specs.Volume.{D, S, determinant, maxCoordinate}
+use Rattle.volume.specs.Volume.{D, S, determinant}
 use Rattle.volume.proofs.PointPolynomials.{Three, point, D', S', SZ, cube-is, square-is, pos-S}
 use Rattle.volume.proofs.VolumeIdentities.{D-exchanged}
 
@@ -167,18 +167,7 @@ module _ (L : ℕ) (p q r s : Point) (hp : CoordinatesTo L p) (hq : CoordinatesT
       (D-most L p q r s hp hq hr hs h)
       (rw⁻¹ (D-exchanged p q r s) (D-most L q p r s hq hp hr hs h)))
 
--- ---- coordinates of 0 to 128
-
-module _
-    (p q r s : Point)
-    (hp : CoordinatesTo maxCoordinate p) (hq : CoordinatesTo maxCoordinate q) (hr : CoordinatesTo maxCoordinate r) (hs : CoordinatesTo maxCoordinate s) where
-  pub D-most-128 : natAbs (D p q r s) ≤ 4194304
-  D-most-128 = D-within 128 p q r s hp hq hr hs (lit< tt)
-
-  pub S-most-128 : S p q r s ≤ 196608
-  S-most-128 = S-within 128 p q r s hp hq hr hs
-
--- ---- any bytes: nothing overflows
+-- ---- coordinates of 0 to 255: any bytes
 
 module _
     (p q r s : Point)

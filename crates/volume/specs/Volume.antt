@@ -10,11 +10,7 @@ use Rattle.volume.specs.declared.Point.{Point}
 
 -- ---- points
 
--- x, y, z, each 0 to 128
-abbrev pub maxCoordinate : ℕ
-maxCoordinate = 128
-
--- points of 3 bytes
+-- points of 3 bytes: x, y, z, each 0 to 255
 abbrev pub pointSize : ℕ
 pointSize = 3
 

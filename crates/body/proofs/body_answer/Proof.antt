@@ -2,7 +2,7 @@
 use mathlib.Core.Path.{sym, _∙_}
 use native.Mathlib.Omega.{arith}
 use borrow.Author.Needs.{needs}
-use Rattle.body.proofs.BodyAnswers.{refused-3, refused-4-points, refused-4-rows, refused-5, refused-6, refused-7, refused-8}
+use Rattle.body.proofs.BodyAnswers.{refused-3, refused-4-points, refused-4-rows, refused-5, refused-7, refused-8}
 use Rattle.body.proofs.BodyAnswers.{all-right}
 use Rattle.body.proofs.body_answer.Statement.{statement}
 use Rattle.body.proofs.body_answer.Tie as tie
@@ -51,30 +51,12 @@ returns-4 c =
     (e3 .if3 .left)
     (sym (c .before .zero-missing .ensures) ∙ c .if4 .taken)
 
-coordinate-over-requires : tie.Need-coordinate-over-requires
-coordinate-over-requires c κs = search needs
+number-wrong-requires : tie.Need-number-wrong-requires
+number-wrong-requires c κs = search needs
 
 returns-5 : tie.Need-returns-5
 returns-5 c =
     let e4 = c .before .before in
-    let e3 = e4 .before .before in
-    let e2 = e3 .before .before in
-    let e1 = e2 .before .before in
-    refused-6
-    (e1 .before .before .before .args .block .now)
-    (e1 .if1 .left)
-    (e2 .if2 .left)
-    (e3 .if3 .left)
-    (sym (e4 .before .zero-missing .ensures) ∙ e4 .if4 .left)
-    (sym (c .before .coordinate-over .ensures) ∙ c .if5 .taken)
-
-number-wrong-requires : tie.Need-number-wrong-requires
-number-wrong-requires c κs = search needs
-
-returns-6 : tie.Need-returns-6
-returns-6 c =
-    let e5 = c .before .before in
-    let e4 = e5 .before .before in
     let e3 = e4 .before .before in
     let e2 = e3 .before .before in
     let e1 = e2 .before .before in
@@ -84,16 +66,14 @@ returns-6 c =
     (e2 .if2 .left)
     (e3 .if3 .left)
     (sym (e4 .before .zero-missing .ensures) ∙ e4 .if4 .left)
-    (sym (e5 .before .coordinate-over .ensures) ∙ e5 .if5 .left)
-    (sym (c .before .number-wrong .ensures) ∙ c .if6 .taken)
+    (sym (c .before .number-wrong .ensures) ∙ c .if5 .taken)
 
 face-twice-requires : tie.Need-face-twice-requires
 face-twice-requires c κs = search needs
 
-returns-7 : tie.Need-returns-7
-returns-7 c =
-    let e6 = c .before .before in
-    let e5 = e6 .before .before in
+returns-6 : tie.Need-returns-6
+returns-6 c =
+    let e5 = c .before .before in
     let e4 = e5 .before .before in
     let e3 = e4 .before .before in
     let e2 = e3 .before .before in
@@ -104,14 +84,12 @@ returns-7 c =
     (e2 .if2 .left)
     (e3 .if3 .left)
     (sym (e4 .before .zero-missing .ensures) ∙ e4 .if4 .left)
-    (sym (e5 .before .coordinate-over .ensures) ∙ e5 .if5 .left)
-    (sym (e6 .before .number-wrong .ensures) ∙ e6 .if6 .left)
-    (sym (c .before .face-twice .ensures) ∙ c .if7 .taken)
+    (sym (e5 .before .number-wrong .ensures) ∙ e5 .if5 .left)
+    (sym (c .before .face-twice .ensures) ∙ c .if6 .taken)
 
-returns-8 : tie.Need-returns-8
-returns-8 c =
-    let e6 = c .before .before in
-    let e5 = e6 .before .before in
+returns-7 : tie.Need-returns-7
+returns-7 c =
+    let e5 = c .before .before in
     let e4 = e5 .before .before in
     let e3 = e4 .before .before in
     let e2 = e3 .before .before in
@@ -122,9 +100,8 @@ returns-8 c =
     (e2 .if2 .left)
     (e3 .if3 .left)
     (sym (e4 .before .zero-missing .ensures) ∙ e4 .if4 .left)
-    (sym (e5 .before .coordinate-over .ensures) ∙ e5 .if5 .left)
-    (sym (e6 .before .number-wrong .ensures) ∙ e6 .if6 .left)
-    (sym (c .before .face-twice .ensures) ∙ c .if7 .left)
+    (sym (e5 .before .number-wrong .ensures) ∙ e5 .if5 .left)
+    (sym (c .before .face-twice .ensures) ∙ c .if6 .left)
 
 pub body-answer-spec : {M : Type 1} → statement M
 body-answer-spec =
@@ -140,10 +117,8 @@ body-answer-spec =
     returns-3
     zero-missing-requires
     returns-4
-    coordinate-over-requires
-    returns-5
     number-wrong-requires
-    returns-6
+    returns-5
     face-twice-requires
-    returns-7
-    returns-8)
+    returns-6
+    returns-7)

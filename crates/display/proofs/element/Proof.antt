@@ -4,7 +4,6 @@ use native.Mathlib.Omega.{arith}
 use lib.Ieee.{ofBits}
 use borrow.Author.Needs.{needs}
 use Rattle.tally.proofs.MeasuredRows.{measured-row}
-use Rattle.display.proofs.PageCanShow.{row-carries}
 use Rattle.display.proofs.ElementsInOrder.{table-shown, table-zero}
 use Rattle.display.proofs.element.Statement.{statement}
 use Rattle.display.proofs.element.Tie as tie
@@ -24,10 +23,7 @@ row-quality-requires c κs =
     rw (c .row-in .ensures) (measured-row (start .pre) (start .args .i) (omega arith))
 
 of-requires : tie.Need-of-requires
-of-requires c κs =
-    let start = c .before .before .before .before .before in
-    let a = start .args in
-    rw (c .row-quality .ensures) (row-carries (a .coordinates .now) (a .count) (a .table .now) (a .n) (start .pre) _)
+of-requires c κs = search needs
 
 signed-requires : tie.Need-signed-requires
 signed-requires c κs = search needs
@@ -40,7 +36,7 @@ returns-2 c =
     let left = row .before in
     let a = left .before .before .before .args in
     table-shown (a .coordinates .now) (a .count) (a .table .now) (a .n) (a .i) (left .if1 .left) _ _ _ _
-    (row .row-in .ensures) (measured .row-quality .ensures) (at-shown .of .ensures) (c .signed .ensures)
+    (row .row-in .ensures) (measured .row-quality .ensures) (at-shown .of .ensures .0) (c .signed .ensures)
 
 pub element-spec : {M : Type 1} → statement M
 element-spec =

@@ -1,8 +1,7 @@
--- Both worst qualities carry over to f64, and the page row is made of what is shown of them.
+-- The page row is made of what is shown of both worst qualities.
 use mathlib.Core.Path.{ap, ap₂, _∙_}
 use borrow.Author.Needs.{needs}
 use Rattle.page.specs.Page.{shown, pageRow}
-use Rattle.display.proofs.PageCanShow.{worst-carries}
 use Rattle.display.proofs.page_row.Statement.{statement}
 use Rattle.display.proofs.page_row.Tie as tie
 
@@ -13,16 +12,10 @@ worst-row-requires-2 : tie.Need-worst-row-requires-2
 worst-row-requires-2 c κs = search needs
 
 of-requires : tie.Need-of-requires
-of-requires c κs =
-    let start = c .before .before .before .before .before in
-    let args = start .args in
-    worst-carries (args .coordinates .now) (args .count) (args .table .now) (args .n) (start .pre .0) _ (c .before .worst-row .ensures)
+of-requires c κs = search needs
 
 of-requires-2 : tie.Need-of-requires-2
-of-requires-2 c κs =
-    let start = c .before .before .before .before .before .before in
-    let args = start .args in
-    worst-carries (args .coordinates .now) (args .count) (args .rows .now) (args .k) (start .pre .1) _ (c .before .worst-row2 .ensures)
+of-requires-2 c κs = search needs
 
 of-requires-3 : tie.Need-of-requires-3
 of-requires-3 c κs = search needs
@@ -31,8 +24,8 @@ returns : tie.Need-returns
 returns c =
     c .of3 .ensures
     ∙ ap₂ pageRow
-    (c .before .before .of .ensures ∙ ap shown (c .before .before .before .before .worst-row .ensures))
-    (c .before .of2 .ensures ∙ ap shown (c .before .before .before .worst-row2 .ensures))
+    (c .before .before .of .ensures .0 ∙ ap shown (c .before .before .before .before .worst-row .ensures))
+    (c .before .of2 .ensures .0 ∙ ap shown (c .before .before .before .worst-row2 .ensures))
 
 pub page-row-spec : {M : Type 1} → statement M
 page-row-spec =

@@ -1,23 +1,18 @@
--- `page::quotient` is `quotient`: both numbers are in the range that f64 counts without a gap, so the casts lose nothing.
-use native.Mathlib.Omega.{arith}
-use lib.Dec.{le→leb}
-use lib.Ieee.{inFloat}
+-- `page::quotient` is `quotient`: the library's conversion rounds to the nearest, whatever the number.
 use borrow.Author.Needs.{needs}
 use Rattle.page.specs.Page.{quotient}
 use Rattle.page.proofs.quotient.Statement.{statement}
 use Rattle.page.proofs.quotient.Tie as tie
 
-int-to-float-result : tie.Need-int-to-float-result
-unfolding inFloat
-int-to-float-result c = omega (arith, le→leb)
+nearest-u64-to-f64-requires : tie.Need-nearest-u64-to-f64-requires
+nearest-u64-to-f64-requires c κs = search needs
 
-int-to-float-result-2 : tie.Need-int-to-float-result-2
-unfolding inFloat
-int-to-float-result-2 c = omega (arith, le→leb)
+nearest-u64-to-f64-requires-2 : tie.Need-nearest-u64-to-f64-requires-2
+nearest-u64-to-f64-requires-2 c κs = search needs
 
 returns : tie.Need-returns
 unfolding quotient
-returns c = search needs
+returns c = cc
 
 pub quotient-spec : {M : Type 1} → statement M
-quotient-spec = tie.close (tie.spec int-to-float-result int-to-float-result-2 returns)
+quotient-spec = tie.close (tie.spec nearest-u64-to-f64-requires nearest-u64-to-f64-requires-2 returns)

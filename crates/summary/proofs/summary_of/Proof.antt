@@ -11,6 +11,7 @@ use Rattle.quality.specs.Quality.{worst}
 use Rattle.score.specs.Score.{totalBadness}
 use Rattle.rows.specs.Rows.{rowsIn}
 use Rattle.rows.specs.RowMeasure.{rowQuality}
+use Rattle.layout.proofs.BytesOfSlices.{all-bytes}
 use Rattle.tally.specs.Tally.{patchIn}
 use Rattle.summary.specs.Steps.{tallied}
 use Rattle.tally.proofs.MeasuredRows.{measured-row}
@@ -41,7 +42,7 @@ with-requires : tie.Need-with-requires Inv-loop μ-loop
 with-requires c κs =
     let l = c .before .before .before in
     rw (l .loop .inv .1, c .row-quality .ensures, c .before .row-in .ensures)
-    (unwrapped (l .before .before .before .pre) (l .loop .i) (omega arith))
+    (unwrapped (l .before .before .before .pre) (all-bytes _ (l .before .before .shared-slice-known .given)) (l .loop .i) (omega arith))
 
 add-i : tie.Need-add-i Inv-loop μ-loop
 add-i c = omega arith
