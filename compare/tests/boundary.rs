@@ -10,7 +10,7 @@ use std::fs;
 
 /// Every name of the header but the bytes of stack, with the model's number, in the header's order: for the answers that in
 /// which they are tested.
-const NAMES: [(&str, usize); 46] = [
+const NAMES: [(&str, usize); 44] = [
     ("BLOCK_BYTES", limits::BLOCK_BYTES),
     ("FIELDS_BYTES", limits::FIELD_BYTES),
     ("SUMMARY_ELEMENTS", SUMMARY_NUMBERS),
@@ -19,7 +19,6 @@ const NAMES: [(&str, usize); 46] = [
     ("VERSION", limits::VERSION as usize),
     ("MAX_POINTS", limits::MAX_POINTS),
     ("MAX_ROWS", limits::MAX_ROWS),
-    ("MAX_COORDINATE", limits::MAX_COORDINATE as usize),
     ("VERSION_AT", limits::VERSION_AT),
     ("POINT_COUNT_AT", limits::POINT_COUNT_AT),
     ("ROW_COUNT_AT", limits::ROW_COUNT_AT),
@@ -33,7 +32,6 @@ const NAMES: [(&str, usize); 46] = [
     ("NOT_VERSION_1", answer::VERSION as usize),
     ("COUNT", answer::COUNT as usize),
     ("NOT_ZERO", answer::NOT_ZERO as usize),
-    ("COORDINATE", answer::COORDINATE as usize),
     ("ROW", answer::ROW as usize),
     ("FACE_TWICE", answer::FACE_TWICE as usize),
     ("NOT_TWO_OR_THREE", answer::NOT_TWO_OR_THREE as usize),

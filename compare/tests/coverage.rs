@@ -11,26 +11,26 @@ static TALLY: LazyLock<Tally> = LazyLock::new(|| Tally::of(cases(1, 28_000)));
 
 /// The answers each call can get.
 const POSSIBLE: [(&str, &[usize]); 10] = [
-    ("open", &[0, 1, 2, 3, 4, 5, 6, 7, 8]),
-    ("seal", &[0, 1, 3, 4, 5, 6, 7, 8]),
-    ("summary", &[0, 1, 2, 3, 4, 5, 6, 7, 8]),
-    ("shown", &[0, 1, 2, 3, 4, 5, 6, 7, 8]),
+    ("open", &[0, 1, 2, 3, 4, 5, 7, 8]),
+    ("seal", &[0, 1, 3, 4, 5, 7, 8]),
+    ("summary", &[0, 1, 2, 3, 4, 5, 7, 8]),
+    ("shown", &[0, 1, 2, 3, 4, 5, 7, 8]),
     ("remove", &REMOVAL),
     ("page", &REMOVAL),
     ("printout", &REMOVAL),
     (
         "flip 3-2",
-        &[0, 1, 2, 3, 4, 5, 6, 7, 8, 9, 10, 11, 12, 13, 15, 20],
+        &[0, 1, 2, 3, 4, 5, 7, 8, 9, 10, 11, 12, 13, 15, 20],
     ),
     (
         "flip 2-3",
-        &[0, 1, 2, 3, 4, 5, 6, 7, 8, 9, 10, 11, 14, 15, 18, 20],
+        &[0, 1, 2, 3, 4, 5, 7, 8, 9, 10, 11, 14, 15, 18, 20],
     ),
-    ("flip, other count", &[1, 2, 3, 4, 5, 6, 7, 8, 21]),
+    ("flip, other count", &[1, 2, 3, 4, 5, 7, 8, 21]),
 ];
 
-const REMOVAL: [usize; 19] = [
-    0, 1, 2, 3, 4, 5, 6, 7, 8, 9, 10, 11, 12, 13, 14, 15, 16, 19, 20,
+const REMOVAL: [usize; 18] = [
+    0, 1, 2, 3, 4, 5, 7, 8, 9, 10, 11, 12, 13, 14, 15, 16, 19, 20,
 ];
 
 fn holds(name: &str, counts: &Counts, possible: &[usize], least: u64) {
@@ -83,11 +83,11 @@ fn several_faults_show_the_order_of_the_answers() {
     holds(
         "one fault",
         &TALLY.families["one fault"],
-        &[2, 3, 4, 5, 6, 7, 8],
+        &[2, 3, 4, 5, 7, 8],
         80,
     );
     let several = &TALLY.families["several faults"];
-    holds("several faults", several, &[2, 3, 4, 5, 6, 7], 80);
+    holds("several faults", several, &[2, 3, 4, 5, 7], 80);
 }
 
 #[test]

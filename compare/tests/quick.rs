@@ -111,7 +111,10 @@ fn removals_are_the_same() {
     assert!(count >= 5000, "{count} removals");
     let met = |number: u32| answers[number as usize] > 0;
     let behind = [answer::NOT_FLAT, answer::TWO_REGIONS];
-    let mut possible = (answer::DONE..=answer::NONE_BETTER).chain(behind);
+    let before = answer::DONE..=answer::NOT_ZERO;
+    let mut possible = before
+        .chain(answer::ROW..=answer::NONE_BETTER)
+        .chain(behind);
     assert!(possible.all(met), "{answers:?}");
 }
 

@@ -14,11 +14,20 @@ use crate::model::Call;
 type Fields = [u8; FIELD_BYTES];
 type Spoiler = fn(&mut Random, &mut Fields);
 
-/// The answers that a block can get after its length, and what spoils it for each but the sums.
-const SPOILERS: [(u32, Spoiler); 6] = [
+/// The answers that a block can get after its length, in the order in which they are tested.
+const BAD_BLOCK: [u32; 6] = [
+    answer::SUM,
+    answer::VERSION,
+    answer::COUNT,
+    answer::NOT_ZERO,
+    answer::ROW,
+    answer::FACE_TWICE,
+];
+
+/// What spoils a block for each of them but the sums.
+const SPOILERS: [(u32, Spoiler); 5] = [
     (answer::FACE_TWICE, twice),
     (answer::ROW, bad_row),
-    (answer::COORDINATE, far_point),
     (answer::NOT_ZERO, not_zero),
     (answer::COUNT, over_count),
     (answer::VERSION, other_version),
@@ -51,12 +60,12 @@ fn spoiled(random: &mut Random, numbers: &[u32]) -> Fields {
     fields
 }
 
-/// An answer from `least` on, and up to three that stand below it in the table.
-fn several(random: &mut Random, least: u32) -> Vec<u32> {
-    let first = least + random.below((answer::FACE_TWICE - least) as usize) as u32;
-    let below: Vec<u32> = (first + 1..=answer::FACE_TWICE).collect();
+/// One of these answers, and up to three that stand behind it.
+fn several(random: &mut Random, numbers: &[u32]) -> Vec<u32> {
+    let first = random.below(numbers.len() - 1);
     let count = random.within(1..=3);
-    [vec![first], random.some(count, &below)].concat()
+    let behind = random.some(count, &numbers[first + 1..]);
+    [vec![numbers[first]], behind].concat()
 }
 
 /// A second row with a directed face of the first.
@@ -84,16 +93,6 @@ fn bad_row(random: &mut Random, fields: &mut Fields) {
         1 => points as u8,
         _ => random.within(points..=255) as u8,
     };
-}
-
-fn far_point(random: &mut Random, fields: &mut Fields) {
-    let bytes = POINT_BYTES * usize::from(fields[POINT_COUNT_AT]);
-    let far = [
-        usize::from(MAX_COORDINATE) + 1,
-        255,
-        random.within(129..=255),
-    ];
-    fields[POINTS_AT + random.below(bytes)] = random.pick(&far) as u8;
 }
 
 fn not_zero(random: &mut Random, fields: &mut Fields) {
@@ -126,13 +125,13 @@ fn other_version(random: &mut Random, fields: &mut Fields) {
 
 /// A block with one fault, in any call.
 pub fn one_fault(random: &mut Random) -> (Call, Option<u32>) {
-    let number = random.within(answer::SUM as usize..=answer::FACE_TWICE as usize) as u32;
+    let number = random.pick(&BAD_BLOCK);
     faulty(random, &[number])
 }
 
 /// A block with two faults or more, in any call.
 pub fn several_faults(random: &mut Random) -> (Call, Option<u32>) {
-    let numbers = several(random, answer::SUM);
+    let numbers = several(random, &BAD_BLOCK);
     faulty(random, &numbers)
 }
 
@@ -152,9 +151,10 @@ fn faulty(random: &mut Random, numbers: &[u32]) -> (Call, Option<u32>) {
 
 /// Fields with one fault or more, to be sealed.
 pub fn faulty_fields(random: &mut Random) -> (Call, Option<u32>) {
+    let without_sums = &BAD_BLOCK[1..];
     let numbers = match random.percent(50) {
-        true => vec![random.within(answer::VERSION as usize..=answer::FACE_TWICE as usize) as u32],
-        false => several(random, answer::VERSION),
+        true => vec![random.pick(without_sums)],
+        false => several(random, without_sums),
     };
     let call = Call::Seal {
         fields: spoiled(random, &numbers).to_vec(),

@@ -6,7 +6,7 @@ use super::random::Random;
 use super::rings::edge_call;
 use super::scene::{any_point, chain, Naming, Scene, A, B, FIRST};
 use crate::model::answer;
-use crate::model::limits::{LONGEST_RING, MAX_COORDINATE, MAX_ROWS, SHORTEST_RING};
+use crate::model::limits::{LONGEST_RING, MAX_ROWS, SHORTEST_RING};
 use crate::model::measure::determinant;
 use crate::model::{Call, Point};
 
@@ -164,7 +164,7 @@ fn bend(scene: &mut Scene, random: &mut Random, m: usize) {
                 let coordinate = &mut scene.points[last][random.below(3)];
                 *coordinate = match random.percent(50) {
                     true => coordinate.saturating_sub(1),
-                    false => (*coordinate + 1).min(MAX_COORDINATE),
+                    false => coordinate.saturating_add(1),
                 };
             }
             false => {

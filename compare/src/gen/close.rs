@@ -1,4 +1,4 @@
-//! Rings that turn on how two fractions compare, turned, enlarged and shifted.
+//! Rings and worst rows that turn on how two fractions compare, turned, enlarged and shifted.
 
 use super::lattice::AXIS_ORDERS;
 use super::obstacles::fill;
@@ -7,7 +7,7 @@ use super::rings::edge_call;
 use super::scene::{circle, Naming, Scene, FIRST};
 use super::templates::*;
 use crate::model::answer;
-use crate::model::limits::MAX_COORDINATE;
+use crate::model::call::PAGE_NUMBERS;
 use crate::model::{Call, Point};
 
 /// Different fractions with one f64.
@@ -35,6 +35,34 @@ pub fn equal(random: &mut Random) -> (Call, Option<u32>) {
     }
 }
 
+/// An accepted removal beside two kept rows that are worse than all others, upright or inverted. Their f64 do not say which is
+/// the worst: they stand in the other order than the fractions, or the fractions are equal and the f64 differ.
+pub fn two_worst(random: &mut Random) -> (Call, Option<u32>) {
+    let mut scene = Scene::new(moved(random, BLOCK_A));
+    scene.link(random, &circle(&[FIRST, FIRST + 1, FIRST + 2]));
+    let two = random.pick(&[OTHER_ORDER, ONE_FRACTION]);
+    let inverted = random.percent(50);
+    for corners in two {
+        let at = scene.points.len() as u8;
+        scene.points.extend(moved_by(random, &corners, 1));
+        let numbers = match inverted {
+            true => [at + 1, at, at + 2, at + 3],
+            false => [at, at + 1, at + 2, at + 3],
+        };
+        scene.push(random, numbers);
+    }
+    let finished = scene.finish(random, Naming::Any, 3);
+    let call = match random.percent(50) {
+        true => Call::Page {
+            block: finished.block(),
+            ends: finished.ends(random),
+            row: vec![f64::from(random.byte()); PAGE_NUMBERS],
+        },
+        false => edge_call(random, &finished),
+    };
+    (call, Some(answer::DONE))
+}
+
 fn ring_of(
     random: &mut Random,
     places: &[Point],
@@ -59,16 +87,28 @@ fn ring_of(
 
 /// The places turned, enlarged and shifted inside the box; handedness stays.
 pub fn moved(random: &mut Random, places: &[Point]) -> Vec<Point> {
+    let widest = sizes(places).into_iter().max().expect("three axes").max(1);
+    let scale = random.within(1..=usize::from(u8::MAX) / widest);
+    moved_by(random, places, scale)
+}
+
+/// How far the places reach along each axis.
+fn sizes(places: &[Point]) -> [usize; 3] {
+    [0, 1, 2].map(|c| {
+        let along = || places.iter().map(|place| place[c]);
+        let (low, high) = (along().min(), along().max());
+        usize::from(high.expect("places") - low.expect("places"))
+    })
+}
+
+/// The same with this enlargement.
+fn moved_by(random: &mut Random, places: &[Point], scale: usize) -> Vec<Point> {
     let (axes, even) = random.pick(&AXIS_ORDERS);
     let mut mirror = [random.percent(50), random.percent(50), false];
     mirror[2] = mirror[0] ^ mirror[1] ^ !even;
     let low = |c: usize| places.iter().map(|p| p[c]).min().expect("places");
-    let high = |c: usize| places.iter().map(|p| p[c]).max().expect("places");
-    let size = [0, 1, 2].map(|c| usize::from(high(c) - low(c)));
-    let widest = size.into_iter().max().expect("three axes").max(1);
-    let most = usize::from(MAX_COORDINATE);
-    let scale = random.within(1..=most / widest);
-    let shift = axes.map(|axis| random.within(0..=most - scale * size[axis]));
+    let size = sizes(places);
+    let shift = axes.map(|axis| random.within(0..=usize::from(u8::MAX) - scale * size[axis]));
     let placed = |place: &Point, c: usize| {
         let from_low = usize::from(place[axes[c]] - low(axes[c]));
         let turned = match mirror[c] {

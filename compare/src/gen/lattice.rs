@@ -58,7 +58,7 @@ pub fn lattice(random: &mut Random) -> (Call, Option<u32>) {
 }
 
 fn points(random: &mut Random, [x_count, y_count, z_count]: [usize; 3]) -> Vec<[u8; 3]> {
-    let step = random.within(4..=50);
+    let step = random.within(4..=100);
     let jitter = random.within(0..=step / 2);
     let mut points = vec![];
     for x in 0..x_count {

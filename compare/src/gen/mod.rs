@@ -35,12 +35,13 @@ pub struct Case {
 type Family = (&'static str, usize, fn(&mut Random) -> (Call, Option<u32>));
 
 /// The families of cases and how many in a hundred each gets.
-const FAMILIES: [Family; 23] = [
-    ("rings", 17, rings::ring),
+const FAMILIES: [Family; 24] = [
+    ("rings", 16, rings::ring),
     ("full tables", 7, rings::full_table),
     ("three", 2, rings::three),
     ("rounding", 3, close::close),
     ("equal fractions", 2, close::equal),
+    ("two worst", 1, close::two_worst),
     ("flat chains", 6, chains::flat),
     ("closing faces", 5, chains::closing),
     ("full tables, chains", 4, chains::full_table),

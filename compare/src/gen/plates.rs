@@ -3,8 +3,7 @@
 use super::close::moved;
 use super::random::Random;
 use super::scene::any_point;
-use super::shapes::{crowded, from_middle, CIRCLE, MIDDLE};
-use crate::model::limits::MAX_COORDINATE;
+use super::shapes::{any_size, crowded, from_middle, CIRCLE, MIDDLE};
 use crate::model::measure::determinant;
 use crate::model::Point;
 
@@ -61,11 +60,12 @@ fn half(random: &mut Random, m: usize, lean: usize) -> Vec<Point> {
 }
 
 fn level_half(random: &mut Random, m: usize, lean: usize) -> Vec<Point> {
-    let radius = random.within(16..=56) as i64;
+    let size = any_size(random);
+    let radius = random.within(16..=size) as i64;
     let jitter = random.within(0..=8);
     let away = radius * random.within(0..=lean) as i64 / 100;
     let x = random.pick(&[away, -away]);
-    let (up, down) = (random.within(4..=60) as i64, random.within(4..=60) as i64);
+    let [up, down] = [0; 2].map(|_| random.within(4..=size) as i64);
     let mut places = vec![from_middle(x, 0, up), from_middle(x, 0, -down)];
     for step in 0..m {
         let (cosine, sine) = on_half(step, m);
@@ -88,7 +88,9 @@ fn on_half(step: usize, m: usize) -> (i64, i64) {
 
 /// a and b, and v1 and vm, each opposite each other in the middle of the box.
 fn slanted(random: &mut Random, m: usize) -> Vec<Point> {
-    let [along, across, up] = [0; 3].map(|_| [0; 3].map(|_| random.within(0..=80) as i64 - 40));
+    let reach = random.pick(&[40, 80]);
+    let mut direction = || [0; 3].map(|_| random.within(0..=2 * reach) as i64 - reach as i64);
+    let [along, across, up] = [direction(), direction(), direction()];
     let jitter = random.within(0..=6);
     let place = |[x, y, z]: [i64; 3]| from_middle(x, y, z);
     let mut places = vec![place(along), place(along.map(|c| -c))];
@@ -114,7 +116,7 @@ fn mirrored(random: &mut Random, m: usize) -> Vec<Point> {
         let image = m - 1 - step;
         places[2 + image] = match image == step {
             true => [MIDDLE, y, z],
-            false => [MAX_COORDINATE - x, y, z],
+            false => [2 * MIDDLE - x, y, z],
         };
     }
     moved(random, &places)

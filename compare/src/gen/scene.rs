@@ -2,7 +2,7 @@
 //! `finish` gives every point its number in the block and puts the rows in random order.
 
 use super::random::Random;
-use crate::model::limits::{BLOCK_BYTES, MAX_COORDINATE, MAX_POINTS};
+use crate::model::limits::{BLOCK_BYTES, MAX_POINTS};
 use crate::model::measure::determinant;
 use crate::model::mesh::{mesh_rule, Numbers, EVEN};
 use crate::model::{Patch, Point, Row};
@@ -142,8 +142,14 @@ pub fn chain(points: &[u8]) -> Vec<(u8, u8)> {
     points.windows(2).map(|pair| (pair[0], pair[1])).collect()
 }
 
+/// Anywhere in the box, one in ten at its corners or a step from them.
 pub fn any_point(random: &mut Random) -> Point {
-    [0; 3].map(|_| random.within(0..=usize::from(MAX_COORDINATE)) as u8)
+    let at_corner = random.percent(10);
+    let ends = [0, 0, 1, u8::MAX - 1, u8::MAX, u8::MAX];
+    [0; 3].map(|_| match at_corner {
+        true => random.pick(&ends),
+        false => random.byte(),
+    })
 }
 
 /// An output block as it comes: any bytes.

@@ -5,6 +5,7 @@
 //! 2022674749632/11265033185713, both shown as 0.1795533769218966. Each ring of the first three
 //! lists holds a copy of both, upright or inverted.
 
+use crate::model::measure::Corners;
 use crate::model::Point;
 
 /// The worst removed row is one of the two, the best new worst the other.
@@ -64,3 +65,21 @@ pub const EQUAL_CHOOSES: [&[Point]; 4] = [
 #[rustfmt::skip]
 pub const OCTAHEDRON: &[Point] =
     &[[6, 6, 12], [6, 6, 0], [12, 6, 6], [6, 12, 6], [0, 6, 6], [6, 0, 6]];
+
+/// Block A of the facts: every row scores over 500 before and after.
+#[rustfmt::skip]
+pub const BLOCK_A: &[Point] = &[[4, 4, 12], [4, 4, 0], [0, 0, 6], [12, 0, 6], [0, 12, 6]];
+
+/// Two upright rows: the first is worse, and its f64 is larger.
+#[rustfmt::skip]
+pub const OTHER_ORDER: [Corners; 2] = [
+    [[136, 68, 71], [220, 2, 217], [6, 232, 241], [236, 61, 49]],
+    [[52, 18, 189], [182, 251, 31], [65, 28, 120], [251, 33, 135]],
+];
+
+/// Two upright rows of one quality, with two f64: the second is the first enlarged three times.
+#[rustfmt::skip]
+pub const ONE_FRACTION: [Corners; 2] = [
+    [[2, 69, 1], [72, 17, 33], [49, 17, 30], [61, 85, 7]],
+    [[6, 207, 3], [216, 51, 99], [147, 51, 90], [183, 255, 21]],
+];

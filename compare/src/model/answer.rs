@@ -1,4 +1,4 @@
-//! "Numbered answers, tested from the top".
+//! "Numbered answers, tested from the top". The numbers 6 and 17 are unused.
 
 /// Done.
 pub const DONE: u32 = 0;
@@ -12,8 +12,6 @@ pub const VERSION: u32 = 3;
 pub const COUNT: u32 = 4;
 /// A byte that must be zero is not.
 pub const NOT_ZERO: u32 = 5;
-/// A coordinate is over 128.
-pub const COORDINATE: u32 = 6;
 /// A row's number is not below the point count, or repeats.
 pub const ROW: u32 = 7;
 /// A directed face stands in two rows.

@@ -116,9 +116,6 @@ fn read(fields: &[u8; FIELD_BYTES]) -> Result<Patch, u32> {
         .chunks_exact(POINT_BYTES)
         .map(|bytes| [bytes[0], bytes[1], bytes[2]])
         .collect();
-    if points.iter().flatten().any(|c| *c > MAX_COORDINATE) {
-        return Err(answer::COORDINATE);
-    }
     let rows: Vec<Row> = fields[ROWS_AT..rows_end]
         .chunks_exact(ROW_BYTES)
         .map(|bytes| Row {

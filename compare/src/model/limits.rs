@@ -30,8 +30,6 @@ pub const ROW_BYTES: usize = 5;
 pub const MAX_POINTS: usize = 64;
 /// "rows, 0 to 60".
 pub const MAX_ROWS: usize = 60;
-/// "x, y, z, each 0 to 128".
-pub const MAX_COORDINATE: u8 = 128;
 
 /// "The quality is 432·D²/S³".
 pub const QUALITY_FACTOR: i128 = 432;

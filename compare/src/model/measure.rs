@@ -3,7 +3,7 @@
 use super::limits::{BEST_SCORE, LEAST_SCORE, QUALITY_FACTOR, SCORE_SCALE};
 use std::cmp::Ordering;
 
-/// "x, y, z, each 0 to 128".
+/// "x, y, z, each 0 to 255".
 pub type Point = [u8; 3];
 /// The four points of a row, in the row's order.
 pub type Corners = [Point; 4];
@@ -85,7 +85,7 @@ pub enum Shown {
 }
 
 impl Shown {
-    /// "That f64 is the single quotient of the two whole numbers, both carried over without loss."
+    /// Both whole numbers become f64, each rounded to the nearest, and then comes one division.
     pub fn of(quality: Quality) -> Shown {
         let size = quality.numerator.unsigned_abs() as f64 / quality.denominator as f64;
         match quality.numerator.cmp(&0) {

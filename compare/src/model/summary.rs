@@ -37,7 +37,7 @@ impl Summary {
     }
 }
 
-/// A row of the patch than which none is worse; "a patch with no rows has no worst score".
+/// The first row of the patch than which none is worse; "a patch with no rows has no worst score".
 pub fn worst_row(patch: &Patch) -> Option<&Row> {
     patch
         .rows

@@ -63,9 +63,6 @@ pub fn opened(block: &[u8; BLOCK_BYTES]) -> Result<Fields<'_>, u32> {
     if zeros.into_iter().flatten().any(|byte| *byte != 0) {
         return Err(answer::NOT_ZERO);
     }
-    if coordinates.iter().any(|byte| *byte > MAX_COORDINATE) {
-        return Err(answer::COORDINATE);
-    }
     let (points, _) = coordinates.as_chunks();
     let (rows, _) = table.as_chunks();
     if !rows.iter().all(|row| fits(row, points.len())) {

@@ -7,7 +7,7 @@ use std::cmp::Ordering;
 /// Kind (0 upright, 1 flat, 2 inverted), numerator and denominator.
 pub type Parts = [u64; 3];
 
-/// An exact fraction; the numerator carries the sign. Both are below 2^53 in size.
+/// An exact fraction; the numerator carries the sign. Both are below 2^59 in size.
 #[derive(Clone, Copy)]
 pub struct Quality {
     pub numerator: i64,
