@@ -11,13 +11,15 @@ mod common;
 
 #[cfg(kernel)]
 mod held {
+    use super::common::sizes::shows;
     use super::common::*;
     use compare::gen::{case, cases, Random};
     use compare::held::Held;
     use compare::model::block::with_sums;
     use compare::model::call::calls_on;
     use compare::model::limits::{BLOCK_BYTES, FIELD_BYTES};
-    use compare::model::{open, Call, Outcome};
+    use compare::model::removal::removal;
+    use compare::model::{open, Call, Outcome, Quality};
 
     /// Generated cases of the gate; `hold` takes any number.
     const CASES: u64 = 36_000;
@@ -151,6 +153,36 @@ mod held {
             .flat_map(move |block| calls_on(&block, numbers))
         });
         Held::of(calls).expect(CALLS * 12_000);
+    }
+
+    /// The bound by whole numbers alone, on the kernel's own f64 values.
+    #[test]
+    fn what_it_shows_is_near_the_fraction() {
+        let [mut rows, mut pages] = [0; 2];
+        for call in cases(4, 6_000).map(|case| case.call) {
+            let outcome = compare::kernel::run(&call);
+            match (&call, outcome) {
+                (Call::Shown { block, .. }, Some(Outcome::Shown(0, out))) => {
+                    let patch = open(block).expect("it is shown");
+                    for (row, bits) in patch.rows.iter().zip(out) {
+                        shows(bits, Quality::of(patch.corners(row)));
+                        rows += 1;
+                    }
+                }
+                (Call::Page { block, ends, .. }, Some(Outcome::Page(0, out))) => {
+                    let before = open(block).expect("it opens");
+                    let removal = removal(before, ends[0], ends[1]).expect("done");
+                    for (patch, bits) in [removal.before, removal.after].iter().zip(out) {
+                        let rows = patch.rows.iter();
+                        let worst = rows.map(|row| Quality::of(patch.corners(row))).min();
+                        shows(bits, worst.expect("rows"));
+                    }
+                    pages += 1;
+                }
+                _ => {}
+            }
+        }
+        assert!(rows > 50_000 && pages > 100, "{rows} {pages}");
     }
 
     /// An output block that the kernel has written opens, also for the model.

@@ -112,8 +112,7 @@ pub fn remove(block: &[u8], end: usize, other_end: usize, out: &mut [u8]) -> Res
     let mut kept = Rows::<MAX_ROWS>::NONE;
     let mut removed = Rows::<LONGEST_RING>::NONE;
     for row in fields.rows {
-        let numbers = numbers(row);
-        match numbers.contains(&a) && numbers.contains(&b) {
+        match holds(row, a, b) {
             true => removed.push(*row),
             false => kept.push(*row),
         }
@@ -125,11 +124,29 @@ pub fn remove(block: &[u8], end: usize, other_end: usize, out: &mut [u8]) -> Res
     let mut new = Rows::<MOST_NEW_ROWS>::NONE;
     new.push_piece(&site, region, &pieces, 0, m - 1);
     write(block, kept.all(), new.all(), out);
-    let worst_kept = kept.worst(fields);
+    let [worst_before, worst_kept] = worsts(fields, a, b);
     Ok(PageRow {
-        before: worst_kept.worse_of(worst_removed).shown(),
+        before: worst_before.shown(),
         after: worst_kept.worse_of(best.worst).shown(),
     })
+}
+
+/// The worst of the whole table and of the rows that stay, of equals the first: equal fractions may be shown as two f64.
+fn worsts(fields: Fields, a: u8, b: u8) -> [Quality; 2] {
+    let [mut all, mut kept] = [Quality::INFINITE; 2];
+    for row in fields.rows {
+        let quality = Quality::of(fields.corners(row));
+        all = all.worse_of(quality);
+        if !holds(row, a, b) {
+            kept = kept.worse_of(quality);
+        }
+    }
+    [all, kept]
+}
+
+fn holds(row: &RowBytes, a: u8, b: u8) -> bool {
+    let numbers = numbers(row);
+    numbers.contains(&a) && numbers.contains(&b)
 }
 
 /// The block afterwards: kept rows, new rows, zeros, sums.

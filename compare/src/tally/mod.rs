@@ -10,9 +10,11 @@ use crate::rivals::{faulty_flip, removal, Fault, FAULTS, FLIP_FAULTS};
 use std::collections::BTreeMap;
 
 mod chains;
+mod measures;
 mod print;
 mod regions;
 
+pub use measures::row_points;
 pub use regions::{SHARED_IN_TABLE, SHARED_ROUND_EDGE};
 
 /// Answers are 0 to 21.
@@ -60,7 +62,7 @@ impl Tally {
         if case.meant.is_some_and(|meant| meant != number) {
             self.disagreements.push(format!("got {number}: {case:?}"));
         }
-        self.add_page(&outcome);
+        self.add_page(&case.call, &outcome);
         self.add_shown(&case.call, &outcome);
         self.add_flip_rivals(&case.call, &outcome);
         for name in regions::region_points(&case.call, number) {
@@ -100,10 +102,14 @@ impl Tally {
         }
     }
 
-    fn add_page(&mut self, outcome: &Outcome) {
-        let Outcome::Page(answer::DONE, row) = outcome else {
+    fn add_page(&mut self, call: &Call, outcome: &Outcome) {
+        let (Call::Page { block, .. }, Outcome::Page(answer::DONE, row)) = (call, outcome) else {
             return;
         };
+        let patch = open(block).expect("it is done");
+        for (name, seen) in measures::worst_points(&patch) {
+            self.point(&format!("page row: {name}"), seen);
+        }
         let [before, after] = [row[0], row[1]].map(f64::from_bits);
         self.point("page row: negative before", before < 0.0);
         self.point("page row: zero before", before == 0.0);
@@ -118,7 +124,11 @@ impl Tally {
         let (Call::Shown { block, .. }, Outcome::Shown(answer::DONE, out)) = (call, outcome) else {
             return;
         };
-        let count = open(block).expect("it is shown").rows.len();
+        let patch = open(block).expect("it is shown");
+        for (name, seen) in row_points(&patch) {
+            self.point(&format!("shown: {name}"), seen);
+        }
+        let count = patch.rows.len();
         let rows: Vec<f64> = out[..count].iter().copied().map(f64::from_bits).collect();
         let any = |holds: fn(f64) -> bool| rows.iter().any(|shown| holds(*shown));
         let (upright, flat, inverted) = (any(|q| q > 0.0), any(|q| q == 0.0), any(|q| q < 0.0));

@@ -3,6 +3,7 @@
 #![allow(dead_code)]
 
 pub mod commands;
+pub mod sizes;
 
 use compare::gen::{cases, Random};
 use compare::model::limits::BLOCK_BYTES;
@@ -53,7 +54,7 @@ pub fn plate() -> Patch {
 
 /// 64 points, no two in one place.
 fn scattered() -> Vec<Point> {
-    let places = (0..64u8).map(|n| [n.wrapping_mul(37) % 129, n.wrapping_mul(11) % 129, n]);
+    let places = (0..64u8).map(|n| [n.wrapping_mul(151), n.wrapping_mul(61), n]);
     places.collect()
 }
 
