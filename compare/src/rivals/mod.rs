@@ -23,6 +23,9 @@ pub enum Fault {
     None,
     ComparesRounded,
     IgnoresTheSign,
+    /// With the answer 6.
+    RefusesCoordinatesOver128,
+    ReadsCoordinatesSigned,
     ForgetsDiagonals,
     ForgetsDiagonalsOfB,
     ForgetsTriangles,
@@ -62,9 +65,11 @@ pub enum Fault {
 }
 
 /// Every wrong kernel.
-pub const FAULTS: [Fault; 37] = [
+pub const FAULTS: [Fault; 39] = [
     Fault::ComparesRounded,
     Fault::IgnoresTheSign,
+    Fault::RefusesCoordinatesOver128,
+    Fault::ReadsCoordinatesSigned,
     Fault::ForgetsDiagonals,
     Fault::ForgetsDiagonalsOfB,
     Fault::ForgetsTriangles,
@@ -104,6 +109,10 @@ pub const FAULTS: [Fault; 37] = [
 
 /// The patch after the removal, or the answer: 9 to 16, 19 and 20.
 pub fn removal(patch: &Patch, ends: [usize; 2], fault: Fault) -> Result<Patch, u32> {
+    let far = patch.points.iter().flatten().any(|c| *c > 128);
+    if far && fault == Fault::RefusesCoordinatesOver128 {
+        return Err(6);
+    }
     let [a, b] = ordered_ends(patch, ends, fault)?;
     let hit: Vec<bool> = patch
         .rows
@@ -290,7 +299,12 @@ fn compared(fault: Fault) -> Compared {
 
 /// The quality of four points given by number, as a rival sees it.
 fn seen_quality(patch: &Patch, numbers: [u8; 4], fault: Fault) -> Quality {
-    let quality = Quality::of(numbers.map(|number| patch.points[usize::from(number)]));
+    let mut corners = numbers.map(|number| patch.points[usize::from(number)]);
+    if fault == Fault::ReadsCoordinatesSigned {
+        // 128 more than each signed byte: D and S are the same.
+        corners = corners.map(|place| place.map(|c| c.wrapping_add(128)));
+    }
+    let quality = Quality::of(corners);
     match fault {
         Fault::IgnoresTheSign => Quality {
             numerator: quality.numerator.abs(),
