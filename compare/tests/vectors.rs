@@ -27,24 +27,24 @@ static SHOWN: LazyLock<BTreeMap<String, usize>> = LazyLock::new(|| {
 
 /// The answers each call can give, a flip by the count of its numbers.
 const POSSIBLE: [(&str, &[u32]); 7] = [
-    ("open", &[0, 1, 2, 3, 4, 5, 6, 7, 8]),
-    ("seal", &[0, 1, 3, 4, 5, 6, 7, 8]),
-    ("summary", &[0, 1, 2, 3, 4, 5, 6, 7, 8]),
+    ("open", &[0, 1, 2, 3, 4, 5, 7, 8]),
+    ("seal", &[0, 1, 3, 4, 5, 7, 8]),
+    ("summary", &[0, 1, 2, 3, 4, 5, 7, 8]),
     (
         "remove",
         &[
-            0, 1, 2, 3, 4, 5, 6, 7, 8, 9, 10, 11, 12, 13, 14, 15, 16, 19, 20,
+            0, 1, 2, 3, 4, 5, 7, 8, 9, 10, 11, 12, 13, 14, 15, 16, 19, 20,
         ],
     ),
     (
         "flip 3-2",
-        &[0, 1, 2, 3, 4, 5, 6, 7, 8, 9, 10, 11, 12, 13, 15, 20],
+        &[0, 1, 2, 3, 4, 5, 7, 8, 9, 10, 11, 12, 13, 15, 20],
     ),
     (
         "flip 2-3",
-        &[0, 1, 2, 3, 4, 5, 6, 7, 8, 9, 10, 11, 14, 15, 18, 20],
+        &[0, 1, 2, 3, 4, 5, 7, 8, 9, 10, 11, 14, 15, 18, 20],
     ),
-    ("flip, other count", &[1, 2, 3, 4, 5, 6, 7, 8, 21]),
+    ("flip, other count", &[1, 2, 3, 4, 5, 7, 8, 21]),
 ];
 
 /// Those that can be done.
@@ -189,6 +189,24 @@ fn tables_are_empty_full_flat_and_inverted() {
         shows(&format!("{call}: every row upright"));
     }
     shows("flip 2-3: 59 rows");
+}
+
+#[test]
+fn coordinates_and_the_numbers_made_of_them_reach_their_ends() {
+    for call in DONE {
+        shows(&format!("{call}: a coordinate of 255"));
+        shows(&format!("{call}: a part that is no f64"));
+    }
+    for call in ["open", "seal", "summary", "remove"] {
+        shows_often(&format!("{call}: the largest D"), 1);
+        shows_often(&format!("{call}: a nearly flat row"), 1);
+    }
+}
+
+#[test]
+fn the_f64_do_not_say_which_row_is_the_worst() {
+    shows("page row: by f64 another row is the worst");
+    shows("page row: a row as bad as the worst has another f64");
 }
 
 #[test]

@@ -5,7 +5,7 @@ use crate::gen::{cases, Case};
 use crate::model::call::{PAGE_NUMBERS, SUMMARY_NUMBERS};
 use crate::model::limits::{BLOCK_BYTES, FIELD_BYTES, MAX_ROWS};
 use crate::model::{answer, open, run, Call, Outcome, Patch, Summary};
-use crate::tally::{name, Tally};
+use crate::tally::{name, row_points, Tally};
 use std::cmp::Ordering;
 use std::collections::BTreeMap;
 
@@ -14,15 +14,18 @@ const SEED: u64 = 1;
 const COUNT: u64 = 10_000;
 
 /// How many cases show a thing: one for each length and outcome of a chain, which the fine points show again, one for each
-/// way to share several regions and each length of a ring that has them, which the wrong kernels show again, and one for each
-/// refusal of a flip before its count is looked at.
+/// way to share several regions and each length of a ring that has them, which the wrong kernels show again, one for each
+/// refusal of a flip before its count is looked at, and one of each call for each end that the measure reaches.
 fn wanted(reason: &str) -> usize {
     let chain = reason.starts_with("chain, m = ");
     let other_count = reason.starts_with("flip, other count");
     let regions = [", 20: ", ": 20", " before 20"]
         .iter()
         .any(|part| reason.contains(part));
-    match chain || other_count || regions {
+    let ends = ["the largest D", "a nearly flat row"]
+        .iter()
+        .any(|part| reason.contains(part));
+    match chain || other_count || regions || ends {
         true => 1,
         false => 2,
     }
@@ -172,6 +175,7 @@ fn in_patch(patch: &Patch) -> Vec<String> {
         ("60 rows", patch.rows.len() == MAX_ROWS),
         ("59 rows", patch.rows.len() == MAX_ROWS - 1),
     ];
-    let shown = shown.into_iter().filter(|(_, seen)| *seen);
+    let shown = shown.into_iter().chain(row_points(patch));
+    let shown = shown.filter(|(_, seen)| *seen);
     shown.map(|(name, _)| String::from(name)).collect()
 }
