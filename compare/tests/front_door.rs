@@ -35,7 +35,8 @@ fn patch_of(text: &str) -> Patch {
 }
 
 /// The samples with the edge that their texts speak of, and the answer there.
-const SAMPLES: [(&str, u8, u8, u32); 6] = [
+const SAMPLES: [(&str, u8, u8, u32); 7] = [
+    ("blade", 0, 1, answer::DONE),
     ("block_a", 0, 1, answer::DONE),
     ("blocked", 0, 1, answer::NOT_ADMISSIBLE),
     ("joint", 0, 1, answer::TWO_REGIONS),
@@ -88,6 +89,17 @@ fn a_sample_has_the_answer_that_its_text_says() {
         );
     }
     assert_eq!(sample_block("plate"), plate().to_bytes());
+}
+
+/// The blade has coordinates that 128 steps cannot hold, and its worst gets better as its text says.
+#[test]
+fn the_blade_has_coordinates_up_to_255_and_gets_better() {
+    let blade = open(&sample_block("blade")).expect("it opens");
+    assert_eq!(blade.points.iter().flatten().max(), Some(&255));
+    let removal = remove(&blade.to_bytes(), 0, 1, &mut UNTOUCHED.clone()).expect("done");
+    let [before, after] = [&removal.before, &removal.after].map(Summary::of);
+    assert_eq!((before.upright, after.upright), (9, 11));
+    assert_eq!((before.worst, after.worst), (Some(320), Some(622)));
 }
 
 /// The joint is upright, and its removal is refused for its regions only; a flip of a face between copper and epoxy is, too.
