@@ -16,6 +16,23 @@ pub type Fraction = (u64, u64);
 /// A block and the ends of an edge in it, in order.
 pub type Edge = (Vec<u8>, [usize; 2]);
 
+/// How large coordinates get: as the generator draws them, or each halved.
+#[derive(Clone, Copy, Debug)]
+pub enum Coordinates {
+    UpTo255,
+    UpTo127,
+}
+
+impl Coordinates {
+    fn patch(self, block: &[u8]) -> Option<Patch> {
+        let mut patch = open(block).ok()?;
+        if let Coordinates::UpTo127 = self {
+            patch.points.iter_mut().flatten().for_each(|c| *c /= 2);
+        }
+        Some(patch)
+    }
+}
+
 pub struct Inputs {
     /// The four points of a row.
     pub corners: Vec<[u8; 12]>,
@@ -30,7 +47,7 @@ pub struct Inputs {
 }
 
 impl Inputs {
-    pub fn new() -> Inputs {
+    pub fn new(coordinates: Coordinates) -> Inputs {
         let mut inputs = Inputs {
             corners: vec![],
             fractions: vec![],
@@ -39,13 +56,11 @@ impl Inputs {
             full_blocks: vec![],
         };
         for case in cases(SEED, CASES) {
-            let Some(block) = block_of(case) else {
-                continue;
-            };
-            let Ok(patch) = open(&block) else { continue };
+            let patch = block_of(case).and_then(|block| coordinates.patch(&block));
+            let Some(patch) = patch else { continue };
             inputs.add(&patch);
             if patch.points.len() == MAX_POINTS && patch.rows.len() == MAX_ROWS {
-                inputs.full_blocks.push(block);
+                inputs.full_blocks.push(patch.to_bytes().to_vec());
             }
         }
         inputs
@@ -65,11 +80,14 @@ impl Inputs {
 
 /// Blocks of `rows` rows with a ring of m whose removal has the answer; with more rows than there is room for, it would
 /// have this answer if there were room.
-pub fn edges(m: usize, rows: usize, answer: u32) -> Vec<Edge> {
+pub fn edges(coordinates: Coordinates, m: usize, rows: usize, answer: u32) -> Vec<Edge> {
     let blocked = answer == answer::NOT_ADMISSIBLE;
     let mut random = Random::of_case(SEED, (100 * m + rows) as u64);
     let drawn = std::iter::repeat_with(|| ring_in_table(&mut random, m, rows, blocked));
-    let ordered = drawn.map(|(block, [a, b])| (block, [a.min(b), a.max(b)]));
+    let ordered = drawn.map(|(block, [a, b])| {
+        let patch = coordinates.patch(&block).expect("it opens");
+        (patch.to_bytes().to_vec(), [a.min(b), a.max(b)])
+    });
     let right = ordered.filter(|(block, [a, b])| {
         let outcome = quick::remove(block, *a, *b, &mut [0; BLOCK_BYTES]);
         let number = outcome.err().unwrap_or(answer::DONE);

@@ -1,10 +1,10 @@
 //! What is measured, line by line.
 
-use crate::inputs::{edges, Edge, Fraction, Inputs, SEED};
+use crate::inputs::{edges, Coordinates, Edge, Fraction, Inputs, SEED};
 use crate::probes;
 use crate::timing::Line;
 use compare::model::answer;
-use compare::model::call::SUMMARY_NUMBERS;
+use compare::model::call::{PAGE_NUMBERS, SUMMARY_NUMBERS};
 use compare::model::limits::{BLOCK_BYTES, MAX_ROWS};
 use compare::{kernel, quick, stack};
 use std::process::{Command, ExitCode};
@@ -80,14 +80,14 @@ fn inner_lines(inputs: &Inputs) -> Vec<Line> {
     ]
 }
 
-fn block_lines(inputs: &Inputs) -> Vec<Line> {
+fn block_lines(coordinates: Coordinates, inputs: &Inputs) -> Vec<Line> {
     let mut from_kernel = [0; SUMMARY_NUMBERS];
     let mut from_rust = [0; SUMMARY_NUMBERS];
     vec![
         Line::of(
             format!("opening a block of {FEW_ROWS} rows"),
             Some(GOAL),
-            &edges(RINGS[0], FEW_ROWS, answer::DONE),
+            &edges(coordinates, RINGS[0], FEW_ROWS, answer::DONE),
             |(block, _)| kernel::open(block).into(),
             |(block, _)| quick::open(block).into(),
         ),
@@ -115,11 +115,11 @@ fn block_lines(inputs: &Inputs) -> Vec<Line> {
 }
 
 /// The table of pieces: what it takes beyond opening the block and finding the ring.
-fn table_line(m: usize) -> Line {
+fn table_line(coordinates: Coordinates, m: usize) -> Line {
     Line::beyond(
         format!("table of pieces, m = {m}, {MAX_ROWS} rows"),
         Some(TABLE_GOAL),
-        &edges(m, MAX_ROWS, answer::DONE),
+        &edges(coordinates, m, MAX_ROWS, answer::DONE),
         [
             |(block, ends)| probes::top_apex(block, *ends),
             |(block, ends)| probes::ring_length(block, *ends),
@@ -132,8 +132,13 @@ fn table_line(m: usize) -> Line {
 }
 
 /// A removal, and a few of the bytes it wrote; all of them are compared once, outside the rounds.
-fn removal_line(m: usize, rows: usize, (outcome, number): (&str, u32)) -> Line {
-    let edges = edges(m, rows, number);
+fn removal_line(
+    coordinates: Coordinates,
+    m: usize,
+    rows: usize,
+    (outcome, number): (&str, u32),
+) -> Line {
+    let edges = edges(coordinates, m, rows, number);
     let mut from_kernel = [0; BLOCK_BYTES];
     let mut from_rust = [0; BLOCK_BYTES];
     for (block, ends) in &edges {
@@ -163,12 +168,33 @@ fn rust_answer(block: &[u8], [a, b]: [usize; 2], out: &mut [u8]) -> u32 {
         .unwrap_or(answer::DONE)
 }
 
-fn removal_lines() -> Vec<Line> {
+/// The page row of a removal that is accepted; Rust's comes with the block.
+fn page_line(coordinates: Coordinates, m: usize) -> Line {
+    let rows = most_rows(m);
+    let mut from_kernel = [0.0; PAGE_NUMBERS];
+    let mut from_rust = [0; BLOCK_BYTES];
+    Line::of(
+        format!("page row, m = {m}, {rows} rows"),
+        None,
+        &edges(coordinates, m, rows, answer::DONE),
+        |(block, ends): &Edge| {
+            let answer = kernel::page(block, *ends, &mut from_kernel);
+            u64::from(answer) ^ mixed(from_kernel.map(f64::to_bits))
+        },
+        |(block, [a, b]): &Edge| {
+            let page = quick::remove(block, *a, *b, &mut from_rust);
+            let page = page.map(|page| [page.before, page.after].map(f64::to_bits));
+            page.map_or_else(u64::from, mixed)
+        },
+    )
+}
+
+fn removal_lines(coordinates: Coordinates) -> Vec<Line> {
     let mut lines = vec![];
     for m in RINGS {
         for rows in [FEW_ROWS, most_rows(m)] {
             for outcome in OUTCOMES {
-                lines.push(removal_line(m, rows, outcome));
+                lines.push(removal_line(coordinates, m, rows, outcome));
             }
         }
     }
@@ -223,17 +249,19 @@ fn print_size() {
 }
 
 /// Prints all lines, and fails if the two sides differ anywhere.
-pub fn print() -> ExitCode {
-    let inputs = Inputs::new();
-    println!("seed {SEED}, nanoseconds a call, medians");
+pub fn print(coordinates: Coordinates) -> ExitCode {
+    let inputs = Inputs::new(coordinates);
+    println!("seed {SEED}, coordinates {coordinates:?}, nanoseconds a call, medians");
     Line::print_head();
     let mut agree = true;
-    let tables: Vec<Line> = RINGS.into_iter().map(table_line).collect();
+    let of_rings =
+        |line: fn(Coordinates, usize) -> Line| RINGS.map(|m| line(coordinates, m)).to_vec();
     let lines = [
         inner_lines(&inputs),
-        block_lines(&inputs),
-        tables,
-        removal_lines(),
+        block_lines(coordinates, &inputs),
+        of_rings(table_line),
+        removal_lines(coordinates),
+        of_rings(page_line),
     ];
     for line in lines.concat() {
         line.print();
