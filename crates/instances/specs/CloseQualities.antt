@@ -26,7 +26,7 @@ unfolding better lesser definitions
 fractions = (refl, refl)
 
 -- the bits of the f64 that the page gets
-abbrev bits : Quality → ℕ
+abbrev pub bits : Quality → ℕ
 bits q = toBits binary64 (signedSize (shown q))
 
 -- both are shown as one, with the bits of 0.1795533769218966
