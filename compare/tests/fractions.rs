@@ -2,8 +2,8 @@
 
 mod common;
 
-use common::sizes::{fraction, is_near, quotient_bits, shows, ONE_FRACTION, OTHER_ORDER};
-use compare::gen::Random;
+use common::sizes::{fraction, is_near, quotient_bits, shows};
+use compare::gen::{Random, ONE_FRACTION, OTHER_ORDER};
 use compare::model::measure::{badness, determinant, edge_sum, score, Corners};
 use compare::model::{PageRow, Quality, Shown};
 use compare::rivals::whole_part_order;

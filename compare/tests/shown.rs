@@ -2,9 +2,9 @@
 
 mod common;
 
-use common::sizes::{fraction, quotient_bits, shows, ONE_FRACTION, OTHER_ORDER};
+use common::sizes::{fraction, quotient_bits, shows};
 use common::*;
-use compare::gen::cases;
+use compare::gen::{cases, ONE_FRACTION, OTHER_ORDER};
 use compare::model::measure::{determinant, Corners};
 use compare::model::removal::removal;
 use compare::model::{open, run, shown, Call, Outcome, Patch, Quality, Row};

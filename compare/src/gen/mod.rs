@@ -23,6 +23,7 @@ use crate::model::Call;
 pub use deep::{deep_calls, deep_sites};
 pub use random::Random;
 pub use rings::ring_in_table;
+pub use templates::{ONE_FRACTION, OTHER_ORDER};
 
 /// A call, and the answer it was built to get where the builder knows it.
 #[derive(Clone, Debug)]

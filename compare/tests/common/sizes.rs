@@ -1,6 +1,5 @@
 //! The f64 of a shown quality by its bits, and how near it is to the fraction: in whole numbers alone.
 
-use compare::model::measure::Corners;
 use compare::model::Quality;
 
 const SIGN: u64 = 1 << 63;
@@ -74,15 +73,3 @@ fn rounded(number: u128) -> (u64, u32) {
     };
     ((whole + up) as u64, cut)
 }
-
-/// Two upright rows: the first is worse, and its f64 is larger.
-pub const OTHER_ORDER: [Corners; 2] = [
-    [[136, 68, 71], [220, 2, 217], [6, 232, 241], [236, 61, 49]],
-    [[52, 18, 189], [182, 251, 31], [65, 28, 120], [251, 33, 135]],
-];
-
-/// Two upright rows of one quality with two f64: the second is the first enlarged three times.
-pub const ONE_FRACTION: [Corners; 2] = [
-    [[2, 69, 1], [72, 17, 33], [49, 17, 30], [61, 85, 7]],
-    [[6, 207, 3], [216, 51, 99], [147, 51, 90], [183, 255, 21]],
-];
