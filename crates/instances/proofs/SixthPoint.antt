@@ -7,7 +7,6 @@ use mathlib.Core.Path.{_≡_, refl, ap, _∙_}
 use borrow.Author.Tests.{lt-ltb}
 use native.Mathlib.Omega.{arith}
 use lib.Dec.{T, ltb, lit≤}
-use Rattle.volume.specs.Steps.{largestByte}
 use Rattle.layout.specs.Layout.{Patch, fieldsOf, bytesOf}
 use Rattle.block.specs.Holding.{Holdable}
 use Rattle.answers.specs.Answers.{Tests, firstRefusal}
@@ -41,7 +40,7 @@ answer-of patch kept e f =
 -- ---- block A with its sixth point
 
 -- a block may hold it, with and without the row of fact 8
-kept-at : (x y z : ℕ) → x ≤ largestByte → y ≤ largestByte → z ≤ largestByte
+kept-at : (x y z : ℕ) → x ≤ 255 → y ≤ 255 → z ≤ 255
     → Holdable (sixthAt x y z []) × Holdable (sixthAt x y z (row 5 2 3 4 ∷ []))
 unfolding blockAWith definitions
 kept-at x y z hx hy hz =
