@@ -3,11 +3,17 @@
 mod common;
 
 use common::region_points;
-use compare::gen::cases;
+use compare::gen::cases_at;
 use compare::tally::{Counts, Tally};
 use std::sync::LazyLock;
+use std::thread;
 
-static TALLY: LazyLock<Tally> = LazyLock::new(|| Tally::of(cases(1, 28_000)));
+/// Of 28,000 cases, half of them by another thread.
+static TALLY: LazyLock<Tally> = LazyLock::new(|| {
+    let other = thread::spawn(|| Tally::of(cases_at(1, 14_000..28_000)));
+    let front = Tally::of(cases_at(1, 0..14_000));
+    front.and(other.join().expect("it counts"))
+});
 
 /// The answers each call can get.
 const POSSIBLE: [(&str, &[usize]); 10] = [

@@ -23,6 +23,7 @@ use crate::model::Call;
 pub use deep::{deep_calls, deep_sites};
 pub use random::Random;
 pub use rings::ring_in_table;
+use std::ops::Range;
 pub use templates::{ONE_FRACTION, OTHER_ORDER};
 
 /// A call, and the answer it was built to get where the builder knows it.
@@ -88,7 +89,12 @@ fn drawn(mut number: usize) -> Family {
 /// The first `count` cases of a seed, each with one more that shows the rows of its block, half of the flips with one of
 /// another count of numbers, and all flips and some removals with one where the rows that would go have several regions.
 pub fn cases(seed: u64, count: u64) -> impl Iterator<Item = Case> {
-    (0..count).flat_map(move |index| {
+    cases_at(seed, 0..count)
+}
+
+/// Those of some indices, each with those that come with it.
+pub fn cases_at(seed: u64, indices: Range<u64>) -> impl Iterator<Item = Case> {
+    indices.flat_map(move |index| {
         let case = case(seed, index);
         let random = &mut Random::of_case(!seed, index);
         let shown = shown::shown(random, &case);

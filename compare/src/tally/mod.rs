@@ -53,6 +53,19 @@ impl Tally {
         tally
     }
 
+    /// Both together.
+    pub fn and(mut self, other: Tally) -> Tally {
+        self.cases += other.cases;
+        merge(&mut self.calls, other.calls, add_counts);
+        merge(&mut self.families, other.families, add_counts);
+        merge(&mut self.rings, other.rings, add_counts);
+        merge(&mut self.chains, other.chains, add_counts);
+        merge(&mut self.told, other.told, |one, more| *one += more);
+        merge(&mut self.points, other.points, |one, more| *one += more);
+        self.disagreements.extend(other.disagreements);
+        self
+    }
+
     fn add(&mut self, case: &Case) {
         let outcome = run(&case.call);
         let number = outcome.answer();
@@ -270,6 +283,19 @@ impl Tally {
 
 fn count<K: Ord>(table: &mut BTreeMap<K, Counts>, key: K, number: u32) {
     table.entry(key).or_insert([0; ANSWERS])[number as usize] += 1;
+}
+
+/// Adds what the second table has to the first.
+fn merge<K: Ord, V: Default>(table: &mut BTreeMap<K, V>, more: BTreeMap<K, V>, add: fn(&mut V, V)) {
+    for (key, value) in more {
+        add(table.entry(key).or_default(), value);
+    }
+}
+
+fn add_counts(counts: &mut Counts, more: Counts) {
+    for (count, more) in counts.iter_mut().zip(more) {
+        *count += more;
+    }
 }
 
 /// The name of a call, of a flip by the count of its numbers.

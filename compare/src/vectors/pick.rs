@@ -1,13 +1,14 @@
 //! Which generated cases are stored: those that show something of which too few are stored yet.
 
 use super::{given, place, MOST_NUMBERS, PART_BYTES};
-use crate::gen::{cases, Case};
+use crate::gen::{cases_at, Case};
 use crate::model::call::{PAGE_NUMBERS, SUMMARY_NUMBERS};
 use crate::model::limits::{BLOCK_BYTES, FIELD_BYTES, MAX_ROWS};
 use crate::model::{answer, open, run, Call, Outcome, Patch, Summary};
 use crate::tally::{name, row_points, Tally};
 use std::cmp::Ordering;
 use std::collections::BTreeMap;
+use std::thread;
 
 /// The generated cases among which is picked.
 const SEED: u64 = 1;
@@ -35,8 +36,7 @@ fn wanted(reason: &str) -> usize {
 pub fn picked() -> Vec<Case> {
     let mut shown: BTreeMap<String, usize> = BTreeMap::new();
     let mut stored: Vec<Case> = vec![];
-    for case in cases(SEED, COUNT).filter_map(storable) {
-        let reasons = reasons(&case);
+    for (case, reasons) in judged() {
         let count = |reason: &String| shown.get(reason).copied().unwrap_or(0);
         if reasons.iter().all(|reason| count(reason) >= wanted(reason)) {
             continue;
@@ -48,6 +48,18 @@ pub fn picked() -> Vec<Case> {
     }
     stored.sort_by_key(|case| place(&case.call));
     stored
+}
+
+/// The cases among which is picked, each with what it shows; half of them by another thread.
+fn judged() -> Vec<(Case, Vec<String>)> {
+    let of = |indices| {
+        let cases = cases_at(SEED, indices).filter_map(storable);
+        let judged = cases.map(|case| (case.clone(), reasons(&case)));
+        judged.collect::<Vec<_>>()
+    };
+    let other = thread::spawn(move || of(COUNT / 2..COUNT));
+    let front = of(0..COUNT / 2);
+    [front, other.join().expect("it judges")].concat()
 }
 
 /// The case with its output filled by one byte, if it is a call of the kernel that a record can hold.

@@ -1,17 +1,14 @@
 -- Any kernel that meets demand 2 shows what is near the exact fractions: a row's quality is small and proper, so what is shown of it is near,
 -- and the worst of a patch is a row's quality.
-use Prim.Native.Nat.{ℕ, _<_, _^_}
+use Prim.Native.Nat.{ℕ}
 use mathlib.Core.List.{List}
-use mathlib.Core.Path.{_≡_, refl, sym, ap, _∙_, subst}
+use mathlib.Core.Path.{_≡_, refl, ap, _∙_}
 use native.Mathlib.Omega.{arith}
-use lib.Dec.{T, lit<}
-use lib.Ieee.{Float}
+use lib.Dec.{T}
 use lib.ListN.{getD}
 use Rattle.lists.specs.Lists.{every}
-use Rattle.volume.specs.declared.Point.{Point}
-use Rattle.volume.specs.Volume.{pointsIn}
 use Rattle.quality.specs.declared.Quality.{Quality}
-use Rattle.quality.proofs.QualityBounds.{Small, num-below-59, den-below-59}
+use Rattle.quality.proofs.QualityBounds.{num-below-59, den-below-59}
 use Rattle.page.specs.Near.{ShownNear}
 use Rattle.page.specs.Page.{shown, signedSize, pageRow}
 use Rattle.page.proofs.NearlyExact.{shown-near}

@@ -4,7 +4,7 @@ use mathlib.Core.Path.{_≡_, refl, sym, _∙_}
 use native.Mathlib.Omega.{arith}
 use Rattle.layout.specs.Layout.{bytesOf}
 use Rattle.block.specs.Opening.{openAnswer}
-use Rattle.demands.specs.Kernels.{ours, opens}
+use Rattle.demands.specs.Kernels.{opens}
 use Rattle.demands.specs.Demands.{Demand1}
 use Rattle.facts.specs.AllDefinitions.{definitions}
 use Rattle.facts.specs.Facts.{blockAWith}
