@@ -1,6 +1,6 @@
 -- The quotient of two whole numbers below 2^64, each carried over to f64 and then divided, is near the exact one; so what is shown of a
 -- quality is near it.
-use Prim.Native.Nat.{ℕ, zero, suc, _+_, _-_, _*_, _^_, _≤_, _<_}
+use Prim.Native.Nat.{ℕ, zero, suc, _*_, _^_, _≤_, _<_}
 use mathlib.Core.Bool.{true, false, not}
 use mathlib.Core.Path.{_≡_, refl, sym, ap, _∙_, subst}
 use native.Mathlib.Nat.{le-trans, mul-one, mul-pos, mul-le-mul-right, mul-lt-mul-of-pos-right, le-of-mul-le-mul-right}
@@ -20,7 +20,7 @@ use Rattle.quality.specs.declared.Kind.the-variants.{Upright, Flat, Inverted}
 use Rattle.quality.specs.declared.Quality.{Quality}
 use Rattle.quality.proofs.ConsistentQualities.{of-kind}
 use Rattle.page.specs.declared.Shown.{Shown}
-use Rattle.page.specs.Near.{Near, ShownNear}
+use Rattle.page.specs.Near.{distance, Near, ShownNear}
 use Rattle.page.specs.Page.{quotient, shown, signedSize}
 use Rattle.page.proofs.RoundedClose.{Within, round-close}
 use Rattle.page.proofs.ThreeRoundings.{three}
@@ -107,7 +107,7 @@ carried n p h =
 
 -- ---- the quotient
 
-from-within : (A B : ℕ) → Within (2 ^ 51) A B → ((A - B) + (B - A)) * 2 ^ 51 ≤ B
+from-within : (A B : ℕ) → Within (2 ^ 51) A B → distance A B * 2 ^ 51 ≤ B
 from-within A B h = omega (arith, h .0, h .1)
 
 no-product : (l g : ℕ) → 0 * l * 1 ≡ 0 * (g * 1)
@@ -146,7 +146,7 @@ something-near n d p h r s =
       near = from-within (Q * d) (n * L) (three n d L (a .G) (b .G) Q L-pos (a .close) (b .close) close);
     }
 
-pub quotient-near : (n d : ℕ) → n < 2 ^ 64 → d < 2 ^ 64 → 0 < d → Near (quotient n d) false n d
+quotient-near : (n d : ℕ) → n < 2 ^ 64 → d < 2 ^ 64 → 0 < d → Near (quotient n d) false n d
 quotient-near zero d h s r = nothing-near d r s
 quotient-near (suc n) d h s r = something-near (suc n) d (omega arith) h r s
 
@@ -158,7 +158,7 @@ negated nan a c h = absurd h
 negated (inf s) a c h = absurd h
 negated (fin s m e) a c h = (ap not (h .0), h .1)
 
-pub minus-near : (x : Float) (t u : ℕ) → Near x false t u → Near (neg x) true t u
+minus-near : (x : Float) (t u : ℕ) → Near x false t u → Near (neg x) true t u
 minus-near x t u h = record { n = h .n; k = h .k; value = negated x (h .n) (2 ^ h .k) (h .value); near = h .near }
 
 -- what is shown of a quality is near it
