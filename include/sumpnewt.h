@@ -30,8 +30,8 @@
  *
  * A quality that is shown is a double: both whole numbers of the fraction, each rounded to the nearest double, and then
  * divided. It has the sign of D, is +0.0 for a flat row, and lies within 2^-51 of the fraction, relative to it. Two fractions
- * that differ by less may be shown as one double, or in the other order; one fraction with two pairs of whole numbers may be
- * shown as two doubles. So never decide by doubles which row is worse.
+ * that differ by less than 2^-50, relative to them, may be shown as one double or in the other order; one fraction with two
+ * pairs of whole numbers may be shown as two doubles. So never decide by doubles which row is worse.
  *
  * EVERY CALL
  *

@@ -10,7 +10,7 @@ use Rattle.lists.specs.Lists.{every}
 use Rattle.quality.specs.declared.Quality.{Quality}
 use Rattle.quality.proofs.QualityBounds.{num-below-59, den-below-59}
 use Rattle.page.specs.Near.{ShownNear}
-use Rattle.page.specs.Page.{shown, signedSize, pageRow}
+use Rattle.page.specs.Page.{plusZero, shown, signedSize, pageRow}
 use Rattle.page.proofs.NearlyExact.{shown-near}
 use Rattle.rows.specs.declared.Row.{Row}
 use Rattle.rows.specs.Rows.{noRow}
@@ -20,7 +20,6 @@ use Rattle.layout.specs.Within.{isByte}
 use Rattle.layout.proofs.BytesOfSlices.{part-bytes}
 use Rattle.tally.specs.Tally.{worstOfPatch}
 use Rattle.tally.proofs.RowsInBytes.{row-proper, row-small, worst-has}
-use Rattle.display.specs.Display.{plusZero}
 use Rattle.display.proofs.ElementsInOrder.{element-shown}
 use Rattle.demands.specs.Kernels.{Kernel}
 use Rattle.demands.specs.Demands.{Demand2}

@@ -7,6 +7,7 @@ use lib.Ieee.{Float}
 use lib.ListN.{length, getD}
 use Rattle.lists.specs.Lists.{every}
 use Rattle.page.specs.declared.PageRow.{PageRow}
+use Rattle.page.specs.Page.{plusZero}
 use Rattle.page.specs.Near.{ShownNear}
 use Rattle.rows.specs.Rows.{noRow}
 use Rattle.rows.specs.RowMeasure.{rowQuality}
@@ -14,7 +15,6 @@ use Rattle.layout.specs.Layout.{maxRows, fieldsOf}
 use Rattle.layout.specs.Within.{isByte}
 use Rattle.block.specs.Holding.{RightBlock}
 use Rattle.tally.specs.Tally.{worstOfPatch}
-use Rattle.display.specs.Display.{plusZero}
 use Rattle.calls.specs.declared.Removal.the-variants.{Done}
 use Rattle.demands.specs.Kernels.{Kernel, removes}
 

@@ -13,7 +13,7 @@ use Rattle.lists.proofs.Images.{map-at}
 use Rattle.quality.specs.declared.Quality.{Quality}
 use Rattle.page.specs.declared.Shown.{Shown}
 use Rattle.volume.specs.Volume.{pointsIn}
-use Rattle.page.specs.Page.{shown, signedSize}
+use Rattle.page.specs.Page.{plusZero, shown, signedSize}
 use Rattle.rows.specs.declared.Row.{Row}
 use Rattle.rows.specs.Rows.{rowIn, noRow}
 use Rattle.rows.specs.RowMeasure.{rowQuality}
@@ -21,7 +21,7 @@ use Rattle.display.specs.Display.{rowShown}
 use Rattle.rows.proofs.RowsOfTables.{rows-length, rows-at}
 use Rattle.layout.specs.Layout.{Patch, maxRows}
 use Rattle.tally.specs.Tally.{patchIn}
-use Rattle.display.specs.Display.{plusZero, shownSizes, shownOf}
+use Rattle.display.specs.Display.{shownSizes, shownOf}
 
 -- behind a list stands what is taken where it has no element
 behind : (xs : List Float) (k i : ℕ) (z : Float) → getD (xs ++ replicate k z) i z ≡ getD xs i z

@@ -9,7 +9,7 @@ use lib.Dec.{T, eqb}
 use lib.Ieee.{Float}
 use lib.ListN.{length, getD}
 use Rattle.lists.specs.Lists.{any, has}
-use Rattle.page.specs.Page.{signedSize}
+use Rattle.page.specs.Page.{plusZero, signedSize}
 use Rattle.rows.specs.Rows.{noRow}
 use Rattle.display.specs.Display.{rowShown}
 use Rattle.answers.specs.declared.Answer.{Answer}
@@ -22,7 +22,7 @@ use Rattle.answers.proofs.Refusals.{answer-done, answer-refused}
 use Rattle.layout.proofs.PatchWritten.{rows-counted}
 use Rattle.tally.specs.Tally.{patchIn}
 use Rattle.tally.proofs.OpensMeasured.{few-rows}
-use Rattle.display.specs.Display.{plusZero, shownAnswer, shownOf, shownElements}
+use Rattle.display.specs.Display.{shownAnswer, shownOf, shownElements}
 use Rattle.display.proofs.ElementsInOrder.{element-shown, element-zero, elements-length}
 
 module _ (block : List ℕ) (out : List Float) where

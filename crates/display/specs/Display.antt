@@ -1,14 +1,13 @@
 -- Requirement §4.4 and §10: the one shown quality that the page gets for any row, for all rows of a block.
 use Prim.Native.Nat.{ℕ, _-_}
-use mathlib.Core.Bool.{false, cond}
+use mathlib.Core.Bool.{cond}
 use mathlib.Core.List.{List, _++_, map}
 use lib.Dec.{eqb}
-use lib.Ieee.{Float, fin}
-use lib.IntN.{pos}
+use lib.Ieee.{Float}
 use lib.ListN.{length, replicate}
 use Rattle.volume.specs.declared.Point.{Point}
 use Rattle.page.specs.declared.Shown.{Shown}
-use Rattle.page.specs.Page.{shown, signedSize}
+use Rattle.page.specs.Page.{plusZero, shown, signedSize}
 use Rattle.rows.specs.declared.Row.{Row}
 use Rattle.rows.specs.RowMeasure.{rowQuality}
 use Rattle.layout.specs.Layout.{Patch, maxRows, fieldsOf}
@@ -17,10 +16,6 @@ use Rattle.block.specs.Opening.{openAnswer}
 -- 1 for an output that has not one element for each row that a block can have, before anything in the block; else the answer of opening
 unfoldable pub shownAnswer : List ℕ → List Float → ℕ
 shownAnswer block out = cond (eqb (length out) maxRows) (openAnswer block) 1
-
--- 0.0 with the sign plus
-abbrev pub plusZero : Float
-plusZero = fin false 0 (pos 0)
 
 -- for any row the page also gets one shown quality
 abbrev pub rowShown : List Point → Row → Shown

@@ -2,12 +2,12 @@
 ghost use Prim.Native.Nat.{_≤_};
 ghost use mathlib.Core.Path.{_≡_};
 ghost use lib.ListN.{length, getD};
-ghost use Rattle.page.specs.Page.{shown, pageRow};
+ghost use Rattle.page.specs.Page.{plusZero, shown, pageRow};
 ghost use Rattle.layout.specs.Layout.{maxRows};
 ghost use Rattle.answers.specs.Answers.{answerOf};
 ghost use Rattle.tally.specs.Steps.{Measured};
 ghost use Rattle.tally.specs.Tally.{patchIn, worstOfPatch};
-ghost use Rattle.display.specs.Display.{plusZero, shownAnswer, shownOf, shownElements};
+ghost use Rattle.display.specs.Display.{shownAnswer, shownOf, shownElements};
 use answers::Answer;
 use layout::BODY_BYTES;
 use layout::MAX_ROWS;

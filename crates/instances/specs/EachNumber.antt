@@ -7,10 +7,11 @@ use lib.Dec.{T}
 use lib.Ieee.{Float}
 use lib.ListN.{length, replicate}
 use Rattle.lists.specs.Lists.{every, has}
+use Rattle.page.specs.Page.{plusZero}
 use Rattle.layout.specs.Layout.{maxRows}
 use Rattle.layout.specs.Within.{isByte}
 use Rattle.block.specs.Opening.{openAnswer, sealAnswer}
-use Rattle.display.specs.Display.{plusZero, shownAnswer}
+use Rattle.display.specs.Display.{shownAnswer}
 use Rattle.calls.specs.Summarising.{summaryGives, summaryNumber}
 use Rattle.calls.specs.Removing.{removeAnswer}
 use Rattle.calls.specs.Flipping.{flipAnswer}

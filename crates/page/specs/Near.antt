@@ -2,12 +2,12 @@
 use Prim.Native.Nat.{ℕ, _+_, _-_, _*_, _^_, _≤_}
 use mathlib.Core.Bool.{Bool, true, false}
 use mathlib.Core.Path.{_≡_}
-use lib.IntN.{pos}
-use lib.Ieee.{Float, fin}
+use lib.Ieee.{Float}
 use lib.Ieee.Exact.{HasValue}
 use Rattle.quality.specs.declared.Kind.{Kind}
 use Rattle.quality.specs.declared.Kind.the-variants.{Upright, Flat, Inverted}
 use Rattle.quality.specs.declared.Quality.{Quality}
+use Rattle.page.specs.Page.{plusZero}
 
 -- |a - b|: of the two differences, each 0 at least, one is 0
 abbrev pub distance : ℕ → ℕ → ℕ
@@ -24,7 +24,7 @@ pub record Near (x : Float) (minus : Bool) (t u : ℕ) : Type 0 where
 -- x is near what a kind and a fraction t/u say: near t/u where upright, near -t/u where inverted, and just +0.0 where flat
 abbrev pub NearOf : Kind → ℕ → ℕ → Float → Type 0
 NearOf Upright t u x = Near x false t u
-NearOf Flat t u x = x ≡ fin false 0 (pos 0)
+NearOf Flat t u x = x ≡ plusZero
 NearOf Inverted t u x = Near x true t u
 
 -- x is near the quality q

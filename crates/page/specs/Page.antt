@@ -20,9 +20,13 @@ shown q =
     let size = quotient (q .num) (q .den) in
     elim (q .kind) [ Upright ↦ Shows.Upright size | Flat ↦ Shows.Flat | Inverted ↦ Shows.Inverted size ]
 
+-- 0.0 with the sign plus
+abbrev pub plusZero : Float
+plusZero = fin false 0 (pos 0)
+
 -- the f64 size: 0 for flat and negative for inverted
 abbrev pub signedSize : Shown → Float
-signedSize Shows.Flat = fin false 0 (pos 0)
+signedSize Shows.Flat = plusZero
 signedSize (Shows.Upright x) = x
 signedSize (Shows.Inverted x) = Ieee.neg x
 

@@ -4,9 +4,10 @@ use mathlib.Core.Path.{_≡_, refl, sym, ap, _∙_}
 use native.Mathlib.Omega.{arith}
 use lib.ListN.{length, getD, set, length-set}
 use Rattle.rows.proofs.RowsOfTables.{rows-length}
+use Rattle.page.specs.Page.{plusZero}
 use Rattle.layout.specs.Layout.{maxRows}
 use Rattle.tally.specs.Tally.{patchIn}
-use Rattle.display.specs.Display.{plusZero, shownOf}
+use Rattle.display.specs.Display.{shownOf}
 use Rattle.display.proofs.ElementsInOrder.{upTo, one-more, all-written}
 use Rattle.display.proofs.put_elements.Statement.{statement}
 use Rattle.display.proofs.put_elements.Tie as tie
