@@ -9,8 +9,8 @@ use edge::larger;
 use edge::smaller;
 use layout::BODY_BYTES;
 use layout::POINTS_AT;
-use layout::ROWS_AT;
 use ring::Ring;
+use rows::ROWS_AT;
 use verdict::decide;
 
 // The answer and, with answer 0, the ring or chain, whether it is closed, the region of the rows that go, and the apexes of the chosen

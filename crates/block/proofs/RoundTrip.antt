@@ -12,7 +12,8 @@ use Rattle.lists.proofs.Tests.{neither-is}
 use Rattle.lists.proofs.Lists.{every-take}
 use Rattle.answers.specs.Answers.{Tests}
 use Rattle.answers.proofs.ByNumber.{testOf, passes, both-passed}
-use Rattle.layout.specs.Layout.{Patch, bodyBytes, maxPoints, maxRows, pointsAt, rowsAt, pointCount, rowCount, coordinatesOf, tableOf}
+use Rattle.rows.specs.Rows.{rowsAt}
+use Rattle.layout.specs.Layout.{Patch, bodyBytes, maxPoints, maxRows, pointsAt, pointCount, rowCount, coordinatesOf, tableOf}
 use Rattle.layout.specs.Layout.{fieldsOf, bodyOf, sumBytes, bytesOf}
 use Rattle.layout.specs.Within.{isByte}
 use Rattle.layout.proofs.BytesOfSlices.{part-bytes}

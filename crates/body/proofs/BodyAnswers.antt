@@ -7,7 +7,8 @@ use borrow.Author.Tests.{eq-eqb, ne-eqb, lt-ltb, le-ltb}
 use Rattle.answers.specs.declared.Answer.{Answer}
 use Rattle.answers.specs.declared.Answer.the-variants.{Done, Refused}
 use Rattle.answers.specs.Answers.{firstRefusal, answerOf}
-use Rattle.layout.specs.Layout.{theVersion, maxPoints, maxRows, version, pointCount, rowCount, fieldsOf}
+use Rattle.rows.specs.Rows.{version}
+use Rattle.layout.specs.Layout.{theVersion, maxPoints, maxRows, pointCount, rowCount, fieldsOf}
 use Rattle.body.specs.Body.{bodyTests, zeroMissing, numberWrong, faceTwice}
 
 -- the answer to a body

@@ -10,9 +10,9 @@ use lib.ListN.{length, take}
 use Rattle.lists.specs.Lists.{every}
 use Rattle.volume.specs.Volume.{pointBytes}
 use Rattle.volume.proofs.PointsInBytes.{points-length}
-use Rattle.rows.specs.Rows.{rowBytes, rowsIn}
+use Rattle.rows.specs.Rows.{version, rowBytes, rowsIn}
 use Rattle.mesh.specs.Mesh.{numbersFit, facesApart}
-use Rattle.layout.specs.Layout.{Patch, bodyBytes, maxPoints, maxRows, zerosAt, pointsAt, version, pointCount, rowCount, part, coordinatesOf}
+use Rattle.layout.specs.Layout.{Patch, bodyBytes, maxPoints, maxRows, zerosAt, pointsAt, pointCount, rowCount, part, coordinatesOf}
 use Rattle.layout.specs.Layout.{tableOf, fieldsOf, filled, bodyOf}
 use Rattle.layout.proofs.CellsReadBack.{point-cells, row-cells, written-length}
 use Rattle.layout.proofs.BlockParts.{part-cut, zero-behind, filled-behind}

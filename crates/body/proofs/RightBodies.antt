@@ -13,9 +13,9 @@ use Rattle.lists.proofs.Numbers.{zeros-e, zeros-i}
 use Rattle.volume.specs.Volume.{pointSize}
 use Rattle.answers.specs.Answers.{firstRefusal}
 use Rattle.answers.proofs.ByNumber.{testOf, passes}
-use Rattle.rows.specs.Rows.{rowSize}
+use Rattle.rows.specs.Rows.{rowsAt, rowSize}
 use Rattle.mesh.specs.Mesh.{numbersFit, facesApart, keepsMeshRule}
-use Rattle.layout.specs.Layout.{Patch, bodyBytes, maxPoints, maxRows, zerosAt, pointsAt, rowsAt, pointCount, rowCount, part}
+use Rattle.layout.specs.Layout.{Patch, bodyBytes, maxPoints, maxRows, zerosAt, pointsAt, pointCount, rowCount, part}
 use Rattle.layout.specs.Layout.{fieldsOf}
 use Rattle.layout.proofs.BlockParts.{part-length}
 use Rattle.body.specs.Body.{bodyTests, notZero, zeroMissing, numberWrong, faceTwice, keepsRule, RightBody}

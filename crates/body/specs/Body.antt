@@ -8,9 +8,9 @@ use lib.ListN.{length, replicate}
 use Rattle.lists.specs.Lists.{every, any}
 use Rattle.volume.specs.Volume.{pointSize}
 use Rattle.answers.specs.Answers.{Tests}
-use Rattle.rows.specs.Rows.{rowSize}
+use Rattle.rows.specs.Rows.{version, rowsAt, rowSize}
 use Rattle.mesh.specs.Mesh.{numbersFit, facesApart, keepsMeshRule}
-use Rattle.layout.specs.Layout.{Patch, bodyBytes, theVersion, maxPoints, maxRows, zerosAt, pointsAt, rowsAt, version}
+use Rattle.layout.specs.Layout.{Patch, bodyBytes, theVersion, maxPoints, maxRows, zerosAt, pointsAt}
 use Rattle.layout.specs.Layout.{pointCount, rowCount, part, fieldsOf}
 
 -- ---- what each answer is given for

@@ -13,9 +13,9 @@ use layout::BODY_BYTES;
 use layout::MAX_POINTS;
 use layout::MAX_ROWS;
 use layout::POINTS_AT;
-use layout::ROWS_AT;
 use layout::VERSION;
 use layout::ZEROS_AT;
+use rows::ROWS_AT;
 use rows::ROW_SIZE;
 use volume::POINT_SIZE;
 

@@ -7,6 +7,7 @@ use lib.Dec.{eqb, ltb}
 use lib.ListN.{length}
 use Rattle.lists.specs.Lists.{those, firstOr, has}
 use Rattle.rows.specs.declared.Row.{Row}
+use Rattle.rows.specs.Labels.{noMarks}
 use Rattle.rows.specs.Rows.{numbers, holdsFace, noRow}
 use Rattle.rows.specs.Regions.{regionOf, mixed}
 use Rattle.mesh.specs.Mesh.{keepsMeshRule}
@@ -60,7 +61,7 @@ threeRows pair face =
     let v = t .r in
     let w = t .s in
     let region = regionOf (pair .removed) in
-    let row : ℕ → ℕ → Row = λ x y. record { p = pair .a; q = pair .b; r = x; s = y; region = region } in
+    let row : ℕ → ℕ → Row = λ x y. record { p = pair .a; q = pair .b; r = x; s = y; region = region; marks = noMarks } in
     row u v ∷ row v w ∷ row w u ∷ []
 
 -- both rows go; the three are appended

@@ -13,9 +13,9 @@ use Rattle.page.specs.Near.{ShownNear}
 use Rattle.page.specs.Page.{plusZero, shown, signedSize, pageRow}
 use Rattle.page.proofs.NearlyExact.{shown-near}
 use Rattle.rows.specs.declared.Row.{Row}
-use Rattle.rows.specs.Rows.{noRow}
+use Rattle.rows.specs.Rows.{rowsAt, noRow}
 use Rattle.rows.specs.RowMeasure.{rowQuality}
-use Rattle.layout.specs.Layout.{Patch, pointsAt, rowsAt, pointCount, coordinatesOf, fieldsOf}
+use Rattle.layout.specs.Layout.{Patch, pointsAt, pointCount, coordinatesOf, fieldsOf}
 use Rattle.layout.specs.Within.{isByte}
 use Rattle.layout.proofs.BytesOfSlices.{part-bytes}
 use Rattle.tally.specs.Tally.{worstOfPatch}

@@ -31,9 +31,9 @@ use Rattle.quality.proofs.QualityBounds.{Small, quality-small, num-below-59, de
 use Rattle.volume.proofs.VolumeBounds.{D-of-bytes, S-of-bytes}
 use Rattle.score.proofs.OctaveLargest.{OctaveIs as OctaveOf, octave-of-rows, octave-of-none, doubled-less}
 use Rattle.rows.specs.declared.Row.{Row}
-use Rattle.rows.specs.Rows.{rowsIn}
+use Rattle.rows.specs.Rows.{rowsAt, rowsIn}
 use Rattle.rows.specs.RowMeasure.{place, rowD, rowS, rowQuality}
-use Rattle.layout.specs.Layout.{Patch, pointsAt, rowsAt, pointCount, rowCount, coordinatesOf, tableOf, fieldsOf}
+use Rattle.layout.specs.Layout.{Patch, pointsAt, pointCount, rowCount, coordinatesOf, tableOf, fieldsOf}
 use Rattle.block.proofs.RightBlocks.{opens}
 use Rattle.summary.specs.declared.Summary.{Summary}
 use Rattle.tally.specs.Tally.{qualities}

@@ -12,9 +12,9 @@ use answers::Answer;
 use layout::BODY_BYTES;
 use layout::MAX_ROWS;
 use layout::POINTS_AT;
-use layout::ROWS_AT;
 use page::PageRow;
 use page::Shown;
+use rows::ROWS_AT;
 
 // Element i: what is shown of row i, and zero behind the rows.
 fn element(coordinates: &[u8], count: usize, table: &[u8], n: usize, i: usize) -> f64

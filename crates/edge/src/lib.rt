@@ -8,9 +8,9 @@ ghost use Rattle.edge.specs.Steps.{edgeFound, foundNone};
 use answers::Answer;
 use layout::BLOCK_BYTES;
 use layout::BODY_BYTES;
-use layout::ROWS_AT;
 use ring::Found;
 use ring::Ring;
+use rows::ROWS_AT;
 use rows::Regions;
 
 // Answers 1 to 8 of a call with a block and an output block: both lengths before anything in the block.

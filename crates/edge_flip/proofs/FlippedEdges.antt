@@ -11,14 +11,14 @@ use Rattle.lists.specs.Lists.{every}
 use Rattle.lists.proofs.Lists.{those-split}
 use Rattle.quality.specs.declared.Quality.{Quality}
 use Rattle.rows.specs.declared.Row.{Row}
-use Rattle.rows.specs.Rows.{holdsEdge}
+use Rattle.rows.specs.Rows.{rowsAt, holdsEdge}
 use Rattle.rows.specs.Regions.{regionOf, mixed}
 use Rattle.rows.specs.Steps.{regionsOf}
 use Rattle.rows.specs.declared.Regions.the-variants.{One, Several}
 use Rattle.rows.proofs.RegionsRowByRow.{told-several, told-one}
 use Rattle.answers.specs.declared.Answer.{Answer}
 use Rattle.answers.specs.declared.Answer.the-variants.{Done, Refused}
-use Rattle.layout.specs.Layout.{blockBytes, bodyBytes, rowsAt, maxRows, pointCount, rowCount, coordinatesOf, tableOf, fieldsOf, sealed}
+use Rattle.layout.specs.Layout.{blockBytes, bodyBytes, maxRows, pointCount, rowCount, coordinatesOf, tableOf, fieldsOf, sealed}
 use Rattle.answers.specs.Answers.{Tests, firstRefusal, answerOf}
 use Rattle.block.specs.Opening.{openAnswer}
 use Rattle.answers.proofs.ByNumber.{unlike, testOf, before, stops, front-passed}

@@ -13,9 +13,9 @@ use edge::larger;
 use edge::smaller;
 use layout::BODY_BYTES;
 use layout::POINTS_AT;
-use layout::ROWS_AT;
 use replacement::best_way;
 use replacement::carry_out;
+use rows::ROWS_AT;
 use rows::Regions;
 
 // The m of a 3-2 flip.

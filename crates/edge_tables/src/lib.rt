@@ -6,8 +6,8 @@ ghost use Rattle.edge_tables.specs.EdgeTables.{ringAt, topApex};
 use answers::Answer;
 use layout::BODY_BYTES;
 use layout::POINTS_AT;
-use layout::ROWS_AT;
 use ring::Ring;
+use rows::ROWS_AT;
 
 // No ring.
 fn no_ring() -> Ring

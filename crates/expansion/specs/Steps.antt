@@ -13,12 +13,13 @@ use Rattle.triangulation.specs.Triangulation.{Tri, side, cut, v}
 use Rattle.kept_faces.specs.declared.Rim.{Rim}
 use Rattle.candidates.specs.declared.Bipyramid.{Bipyramid}
 use Rattle.cells.specs.Steps.{cellAt, apexIn}
+use Rattle.rows.specs.Labels.{noMarks}
 
 -- the rows (a,x,y,z) and (x,y,z,b)
 abbrev pub rowsOver : Bipyramid → ℕ → List Row
 rowsOver rows region =
-    record { p = rows .a; q = rows .x; r = rows .y; s = rows .z; region = region }
-    ∷ record { p = rows .x; q = rows .y; r = rows .z; s = rows .b; region = region } ∷ []
+    record { p = rows .a; q = rows .x; r = rows .y; s = rows .z; region = region; marks = noMarks }
+    ∷ record { p = rows .x; q = rows .y; r = rows .z; s = rows .b; region = region; marks = noMarks } ∷ []
 
 -- each apex kept for a piece inside (i,j) lies between the piece's ends, or is the mark
 pub record Between (apexes : List ℕ) (i j : ℕ) : Type 0 where

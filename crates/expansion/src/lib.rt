@@ -2,7 +2,7 @@
 ghost use mathlib.Core.Path.{_≡_};
 ghost use Prim.Native.Nat.{_+_, _-_, _*_, _<_, _≤_};
 ghost use lib.ListN.{length, getD};
-ghost use Rattle.rows.specs.Rows.{rowSize, withRows};
+ghost use Rattle.rows.specs.Rows.{rowsAt, rowSize, withRows};
 ghost use Rattle.ring.specs.Ring.{Site, maxRing};
 ghost use Rattle.triangulation.specs.Triangulation.{span, newRows};
 ghost use Rattle.cells.specs.Steps.{cellAt, cells};
@@ -16,7 +16,7 @@ use rows::Row;
 
 // The two rows of a triangle from row `at` on.
 fn write_two(table: &mut [u8], at: usize, rows: Bipyramid, region: u8)
-    requires { ⌜ rowSize * (at + 2) ≤ length (now table) ⌝ }
+    requires { ⌜ rowsAt + rowSize * (at + 2) ≤ length (now table) ⌝ }
     ensures { λ _. ⌜ now (table .exit) ≡ withRows (now (table .entry)) at (rowsOver rows region) ⌝ }
 {
     let a_row = Row {
@@ -57,7 +57,7 @@ pub fn expand(
     j: usize,
 ) -> usize
     requires { ⌜ (length (now apexes) ≡ cells) × Between (now apexes) i j × (1 ≤ i) × (i < j) × (j ≤ maxRing) ⌝ }
-    requires { ⌜ rowSize * (at + 2 * (j - i - 1)) ≤ length (now table) ⌝ }
+    requires { ⌜ rowsAt + rowSize * (at + 2 * (j - i - 1)) ≤ length (now table) ⌝ }
     ensures { λ r. ⌜ (r ≤ at + 2 * (j - i - 1))
         × ((site : Site)
         → SiteRows site rim region i j

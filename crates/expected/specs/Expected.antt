@@ -6,7 +6,8 @@ use lib.Dec.{eqb}
 use lib.ListN.{length, getD}
 use Rattle.lists.specs.Lists.{same}
 use Rattle.layout.specs.declared.Fields.{Fields}
-use Rattle.layout.specs.Layout.{pointsAt, rowsAt, bodyBytes}
+use Rattle.rows.specs.Rows.{rowsAt}
+use Rattle.layout.specs.Layout.{pointsAt, bodyBytes}
 use Rattle.ring.specs.declared.Ring.{Ring}
 use Rattle.records.specs.Records.{lengthIn, partIn, ringAt, outputAt}
 

@@ -11,13 +11,13 @@ use answers::Answer;
 use layout::BODY_BYTES;
 use layout::Fields;
 use layout::POINTS_AT;
-use layout::ROWS_AT;
 use records::ANSWER_AT;
 use records::M_AT;
 use records::OUTPUT_AT;
 use records::RING_AT;
 use records::RING_END;
 use ring::Ring;
+use rows::ROWS_AT;
 
 // The same bytes in the same places.
 fn same(x: &[u8], y: &[u8]) -> bool

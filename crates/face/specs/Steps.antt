@@ -9,6 +9,7 @@ use Rattle.rows.specs.declared.Regions.the-variants.{One}
 use Rattle.rows.specs.Steps.{regionsOf, withRegion}
 use Rattle.face.specs.declared.Sharing.{Sharing}
 use Rattle.calls.specs.Flipping.{Pair, pairOf}
+use Rattle.rows.specs.Labels.{noMarks}
 
 -- the rows that hold the face: how many, the smaller apex and the other, a's row, and their regions
 abbrev pub sharing : Pair → Sharing
@@ -31,6 +32,6 @@ withRow found row apex =
 -- the three rows of the edge a, b, of a region: (a,b,u,v), (a,b,v,w), (a,b,w,u)
 abbrev pub threeOf : Sharing → ℕ → ℕ → ℕ → ℕ → List Row
 threeOf found region u v w =
-    record { p = found .a; q = found .b; r = u; s = v; region = region }
-    ∷ record { p = found .a; q = found .b; r = v; s = w; region = region }
-    ∷ record { p = found .a; q = found .b; r = w; s = u; region = region } ∷ []
+    record { p = found .a; q = found .b; r = u; s = v; region = region; marks = noMarks }
+    ∷ record { p = found .a; q = found .b; r = v; s = w; region = region; marks = noMarks }
+    ∷ record { p = found .a; q = found .b; r = w; s = u; region = region; marks = noMarks } ∷ []

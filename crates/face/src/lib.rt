@@ -5,7 +5,7 @@ ghost use mathlib.Core.List.{[], _∷_};
 ghost use mathlib.Core.Path.{_≡_};
 ghost use lib.ListN.{length};
 ghost use Rattle.lists.specs.Lists.{has};
-ghost use Rattle.rows.specs.Rows.{rowSize, rowsIn, withRows};
+ghost use Rattle.rows.specs.Rows.{rowsAt, rowSize, rowsIn, withRows};
 ghost use Rattle.layout.specs.Layout.{maxRows};
 ghost use Rattle.links.specs.Links.{link};
 ghost use Rattle.links.specs.Steps.{LinkedRow};
@@ -141,7 +141,7 @@ fn with_row(found: Sharing, row: Row, apex: u8) -> Sharing
 
 // Those of the first n rows.
 pub fn share(table: &[u8], n: usize, x: u8, y: u8, z: u8) -> Sharing
-    requires { ⌜ (rowSize * n ≤ length (now table)) × (n ≤ maxRows) ⌝ }
+    requires { ⌜ (rowsAt + rowSize * n ≤ length (now table)) × (n ≤ maxRows) ⌝ }
     ensures { λ r. ⌜ r ≡ sharingIn (rowsIn (now (table .entry)) n) (x ∷ y ∷ z ∷ []) ⌝ }
 {
     let mut found = Sharing {
@@ -170,7 +170,7 @@ pub fn share(table: &[u8], n: usize, x: u8, y: u8, z: u8) -> Sharing
 
 // The three new rows, of a region, from row `at` on: u is the smallest number of the face, v and w follow it in a's row.
 pub fn put_three(rows: &mut [u8], at: usize, found: Sharing, region: u8, u: u8)
-    requires { ⌜ rowSize * (at + 3) ≤ length (now rows) ⌝ }
+    requires { ⌜ rowsAt + rowSize * (at + 3) ≤ length (now rows) ⌝ }
     requires { ⌜ LinkedRow (found .a) u (found .row) ⌝ }
     ensures { λ _. ⌜ now (rows .exit) ≡ withRows (now (rows .entry)) at
         (threeOf found region u (link (found .a) u (found .row) .0) (link (found .a) u (found .row) .1)) ⌝ }

@@ -14,8 +14,8 @@ use face::put_three;
 use face::share;
 use layout::BODY_BYTES;
 use layout::MAX_ROWS;
-use layout::ROWS_AT;
 use layout::TABLE_BYTES;
+use rows::ROWS_AT;
 use rows::Regions;
 
 // The flip of a face with right numbers: writes the block afterwards, or refuses and leaves every output byte.

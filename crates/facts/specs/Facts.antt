@@ -22,6 +22,7 @@ use Rattle.calls.specs.Flipping.{flipAnswer, flipBytes}
 use Rattle.lines.specs.Lines.{text}
 use Rattle.printout.specs.Printout.{printout}
 use Rattle.facts.specs.AllDefinitions.{definitions}
+use Rattle.rows.specs.Labels.{noMarks}
 
 -- ---- the patches
 
@@ -31,7 +32,7 @@ at x y z = record { x = x; y = y; z = z }
 
 -- a row of region 7
 abbrev pub row : ℕ → ℕ → ℕ → ℕ → Row
-row p q r s = record { p = p; q = q; r = r; s = s; region = 7 }
+row p q r s = record { p = p; q = q; r = r; s = s; region = 7; marks = noMarks }
 
 -- Block A, with point 0 at a place and with more points and rows.
 unfoldable pub blockAWith : Point → List Point → List Row → Patch

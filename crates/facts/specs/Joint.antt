@@ -14,10 +14,11 @@ use Rattle.lines.specs.Lines.{text}
 use Rattle.printout.specs.Printout.{printout}
 use Rattle.facts.specs.AllDefinitions.{definitions}
 use Rattle.facts.specs.Facts.{at, blank, answer}
+use Rattle.rows.specs.Labels.{noMarks}
 
 -- the row (0,1,r,s) of a region
 abbrev pub rowOf : ℕ → ℕ → ℕ → Row
-rowOf region r s = record { p = 0; q = 1; r = r; s = s; region = region }
+rowOf region r s = record { p = 0; q = 1; r = r; s = s; region = region; marks = noMarks }
 
 -- four rows round the edge 0, 1, two of one region and two of another; between both lie the faces 0, 1, 2 and 0, 1, 4
 unfoldable pub jointOf : ℕ → ℕ → Patch

@@ -8,7 +8,7 @@ use lib.ListN.{getD, length}
 use Rattle.lists.specs.Lists.{those, has}
 use Rattle.rows.specs.declared.Row.{Row}
 use Rattle.mesh.specs.Mesh.{Face, faces, reversed}
-use Rattle.rows.specs.Rows.{holdsEdge, rowSize}
+use Rattle.rows.specs.Rows.{rowsAt, holdsEdge, rowSize}
 use Rattle.rows.specs.RowMeasure.{place}
 use Rattle.keys.specs.Steps.{faceKey}
 use Rattle.kept_faces.specs.declared.Rim.{Rim}
@@ -88,7 +88,7 @@ pub record SiteRim (site : Site) (coordinates : List ℕ) (rim : Rim) (keys : Li
 pub record Fillable (coordinates : List ℕ) (count : ℕ) (table : List ℕ) (n a b : ℕ) (closed : Bool) (ring : Ring) : Type 0 where
   pub points : pointSize * count ≤ length coordinates
   pub few-points : count ≤ maxPoints
-  pub rows : rowSize * n ≤ length table
+  pub rows : rowsAt + rowSize * n ≤ length table
   pub few-rows : n ≤ maxRows
   pub ordered : a < b
   pub below : b < count

@@ -5,7 +5,7 @@ ghost use mathlib.Core.Bool.{false, cond, _||_};
 ghost use Prim.Native.Nat.{_+_, _*_, _%_, _<_, _≤_};
 ghost use lib.ListN.{length, take};
 ghost use Rattle.lists.specs.Lists.{has};
-ghost use Rattle.rows.specs.Rows.{rowSize, rowsIn};
+ghost use Rattle.rows.specs.Rows.{rowsAt, rowSize, rowsIn};
 ghost use Rattle.rows.specs.Steps.{mostRows};
 ghost use Rattle.keys.specs.Steps.{mostKeys, rowFaces, faceKey};
 ghost use Rattle.ring.specs.Ring.{maxRing};
@@ -94,7 +94,7 @@ fn add_row(
 
 // The keys of the kept rows' faces whose numbers are all met, from place 0 on; and how many they are.
 pub fn gather(keys: &mut [u32; MOST_KEYS], table: &[u8], n: usize, rim: Rim, m: usize) -> usize
-    requires { ⌜ (length (now keys) ≡ mostKeys) × (rowSize * n ≤ length (now table)) × (n ≤ mostRows) × (m ≤ maxRing) ⌝ }
+    requires { ⌜ (length (now keys) ≡ mostKeys) × (rowsAt + rowSize * n ≤ length (now table)) × (n ≤ mostRows) × (m ≤ maxRing) ⌝ }
     ensures { λ r. ⌜ (length (now (keys .exit)) ≡ mostKeys) × (r ≤ mostKeys)
         × Gathered (take r (now (keys .exit))) rim m (keptOf (rim .a) (rim .b) (rowsIn (now (table .entry)) n)) ⌝ }
 {

@@ -5,7 +5,7 @@ ghost use mathlib.Core.Bool.{not};
 ghost use mathlib.Core.List.{_++_};
 ghost use lib.ListN.{length, take, drop};
 ghost use Rattle.lists.specs.Lists.{every, any, has};
-ghost use Rattle.rows.specs.Rows.{rowSize, rowsIn};
+ghost use Rattle.rows.specs.Rows.{rowsAt, rowSize, rowsIn};
 ghost use Rattle.rows.specs.Steps.{mostRows};
 ghost use Rattle.mesh.specs.Mesh.{facesApart, keepsMeshRule};
 ghost use Rattle.keys.specs.Steps.{rowFaces, mostKeys, threeAsOne, faceKey, rowKeys, tableKeys, oneOf};
@@ -55,7 +55,7 @@ fn store_keys(keys: &mut [u32; MOST_KEYS], i: usize, row: Row)
 
 // The keys of the first n rows, in order, from place 0 on.
 fn store_all(keys: &mut [u32; MOST_KEYS], table: &[u8], n: usize)
-    requires { ⌜ (length (now keys) ≡ mostKeys) × (rowSize * n ≤ length (now table)) × (n ≤ mostRows) ⌝ }
+    requires { ⌜ (length (now keys) ≡ mostKeys) × (rowsAt + rowSize * n ≤ length (now table)) × (n ≤ mostRows) ⌝ }
     ensures { λ _. ⌜ (length (now (keys .exit)) ≡ mostKeys)
         × (take (rowFaces * n) (now (keys .exit)) ≡ tableKeys (rowsIn (now (table .entry)) n)) ⌝ }
 {
@@ -104,7 +104,7 @@ fn row_apart(keys: &[u32; MOST_KEYS], i: usize) -> bool
 
 // No directed face stands in two of the first n rows.
 pub fn all_apart(table: &[u8], n: usize) -> bool
-    requires { ⌜ (rowSize * n ≤ length (now table)) × (n ≤ mostRows) ⌝ }
+    requires { ⌜ (rowsAt + rowSize * n ≤ length (now table)) × (n ≤ mostRows) ⌝ }
     ensures { λ r. ⌜ r ≡ facesApart (rowsIn (now (table .entry)) n) ⌝ }
 {
     let mut keys = [0u32; MOST_KEYS];
@@ -119,7 +119,7 @@ pub fn all_apart(table: &[u8], n: usize) -> bool
 
 // The first n rows keep the mesh rule.
 pub fn keeps_mesh_rule(table: &[u8], n: usize, count: usize) -> bool
-    requires { ⌜ (rowSize * n ≤ length (now table)) × (n ≤ mostRows) ⌝ }
+    requires { ⌜ (rowsAt + rowSize * n ≤ length (now table)) × (n ≤ mostRows) ⌝ }
     ensures { λ r. ⌜ r ≡ keepsMeshRule count (rowsIn (now (table .entry)) n) ⌝ }
 {
     if !mesh::all_fit(table, n, count) {

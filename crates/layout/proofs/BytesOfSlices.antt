@@ -1,5 +1,5 @@
 -- What a slice of bytes holds: numbers up to 255, and 0 behind them; and so do its parts.
-use Prim.Native.Nat.{ℕ, _-_, _≤_}
+use Prim.Native.Nat.{ℕ, _-_, _≤_, _<_}
 use mathlib.Core.Bool.{Bool, true, false}
 use mathlib.Core.List.{List}
 use mathlib.Core.Path.{_≡_, refl}
@@ -25,6 +25,9 @@ byte-most xs h i = go (ltb i (length xs)) refl
     go : (b : Bool) → ltb i (length xs) ≡ b → byte xs i ≤ largestByte
     go true e = omega (arith, ltb→lt (byte xs i) 256 (every-at isByte xs h (at-in xs i 0 (ltb-true i (length xs) e))))
     go false e = omega (arith, List·getD-eq-default xs 0 (ltb-false i (length xs) e))
+
+pub byte-below : (xs : List ℕ) → T (every isByte xs) → (i : ℕ) → byte xs i < 256
+byte-below xs h i = omega (arith, byte-most xs h i)
 
 pub part-bytes : (i j : ℕ) (block : List ℕ) → T (every isByte block) → T (every isByte (part i j block))
 part-bytes i j block h = every-take isByte (j - i) (drop i block) (every-drop isByte i block h)

@@ -1,22 +1,30 @@
 -- What is written of a patch: where each part stands in the bytes, that it holds the patch, and that it is 512 bytes. Points and rows are
 -- cells, and what is beyond the counts is zero.
 use Prim.Native.Nat.{ℕ, _+_, _-_, _*_, _≤_, _<_}
-use mathlib.Core.List.{List, [], _∷_, _++_, flatMap, append-assoc}
-use mathlib.Core.Path.{_≡_, refl, ap, _∙_}
+use mathlib.Core.Bool.{true}
+use mathlib.Core.List.{List, [], _∷_, _++_, flatMap, append-assoc, List·Memᴰ·not-nil}
+use mathlib.Core.Path.{_≡_, refl, sym, ap, _∙_}
 use native.Mathlib.Omega.{arith}
 use borrow.Author.Tests.{lt-ltb}
-use lib.Dec.{T}
-use lib.ListN.{length, take, replicate, length-append}
+use lib.Dec.{T, eqb→eq, lt→ltb}
+use lib.ListN.{length, take, drop, replicate, length-append}
+use lib.Seq.{drop-at, take-take}
 use Rattle.lists.specs.Lists.{every}
-use Rattle.lists.proofs.Lists.{every-both, every-replicate}
+use Rattle.lists.proofs.Tests.{and-l, and-r, and-i}
+use Rattle.lists.proofs.Lists.{every-at, every-i, every-both, every-replicate}
+use Rattle.lists.proofs.Places.{in-cases}
 use Rattle.volume.specs.Volume.{pointSize, pointBytes}
 use Rattle.volume.proofs.PointsInBytes.{points-length}
-use Rattle.rows.specs.Rows.{rowSize, rowBytes}
-use Rattle.rows.proofs.RowsOfTables.{rows-length}
-use Rattle.layout.specs.Layout.{Patch, bodyBytes, blockBytes, theVersion, maxPoints, maxRows, zerosAt, pointsAt, rowsAt, version}
+use Rattle.rows.specs.declared.Row.{Row}
+use Rattle.rows.specs.Labels.{plainVersion, labelByte}
+use Rattle.rows.specs.Rows.{version, rowsAt, rowSize, rowsIn, labels, rowBytes, numbers}
+use Rattle.rows.proofs.LabelsReadBack.{written-read as labels-written}
+use Rattle.rows.proofs.RowsOfTables.{rows-length, rows-room, rows-bytes as rows-bytes-of}
+use Rattle.layout.specs.Layout.{Patch, bodyBytes, blockBytes, isVersion, maxPoints, maxRows, zerosAt, pointsAt}
 use Rattle.layout.specs.Layout.{pointCount, rowCount, part, coordinatesOf, tableOf, fieldsOf, filled, bodyOf, sumBytes, bytesOf}
-use Rattle.layout.specs.Within.{isByte, Within}
-use Rattle.layout.proofs.CellsReadBack.{point-cells, row-cells, written-length, points-read, rows-read, points-written, rows-written}
+use Rattle.layout.specs.Within.{isByte, rowFits, Within}
+use Rattle.layout.proofs.CellsReadBack.{point-cells, row-cells, roomy, written-length, points-read, rows-read, points-written, rows-written}
+use Rattle.layout.proofs.BytesOfSlices.{byte-below, part-bytes}
 use Rattle.layout.proofs.BlockParts.{filled-length, part-length, part-at}
 use Rattle.layout.proofs.SumLaws.{sum-bytes-length, sum-bytes}
 
@@ -24,99 +32,136 @@ use Rattle.layout.proofs.SumLaws.{sum-bytes-length, sum-bytes}
 
 -- the version, the counts and the zeros stand where they were written
 
-pub points-at : (patch : Patch) (rest : List ℕ) → pointCount (bodyOf patch ++ rest) ≡ length (patch .points)
+pub points-at : (v : ℕ) (patch : Patch) (rest : List ℕ) → pointCount (bodyOf v patch ++ rest) ≡ length (patch .points)
 unfolding bodyOf
-points-at patch rest = refl
+points-at v patch rest = refl
 
-pub rows-at : (patch : Patch) (rest : List ℕ) → rowCount (bodyOf patch ++ rest) ≡ length (patch .rows)
+pub rows-at : (v : ℕ) (patch : Patch) (rest : List ℕ) → rowCount (bodyOf v patch ++ rest) ≡ length (patch .rows)
 unfolding bodyOf
-rows-at patch rest = refl
+rows-at v patch rest = refl
 
-pub version-at : (patch : Patch) (rest : List ℕ) → version (bodyOf patch ++ rest) ≡ theVersion
+pub version-at : (v : ℕ) (patch : Patch) (rest : List ℕ) → version (bodyOf v patch ++ rest) ≡ v
 unfolding bodyOf
-version-at patch rest = refl
+version-at v patch rest = refl
 
-pub zeros-at : (patch : Patch) (rest : List ℕ) → part zerosAt pointsAt (bodyOf patch ++ rest) ≡ replicate (pointsAt - zerosAt) 0
+pub zeros-at : (v : ℕ) (patch : Patch) (rest : List ℕ) → part zerosAt pointsAt (bodyOf v patch ++ rest) ≡ replicate (pointsAt - zerosAt) 0
 unfolding bodyOf
-zeros-at patch rest = refl
+zeros-at v patch rest = refl
 
-module _ (patch : Patch) (few-points : length (patch .points) ≤ maxPoints) (few-rows : length (patch .rows) ≤ maxRows) where
+module _ (v : ℕ) (patch : Patch) (few-points : length (patch .points) ≤ maxPoints) (few-rows : length (patch .rows) ≤ maxRows) where
   -- the three parts that are written
   abbrev head : List ℕ
-  head = filled pointsAt (theVersion ∷ length (patch .points) ∷ length (patch .rows) ∷ [])
+  head = filled pointsAt (v ∷ length (patch .points) ∷ length (patch .rows) ∷ [])
 
   abbrev coordinates : List ℕ
   coordinates = filled (rowsAt - pointsAt) (flatMap pointBytes (patch .points))
 
   abbrev table : List ℕ
-  table = filled (bodyBytes - rowsAt) (flatMap rowBytes (patch .rows))
+  table = filled (bodyBytes - rowsAt) (flatMap (rowBytes v) (patch .rows))
 
   coordinates-length : length coordinates ≡ 192
   coordinates-length = filled-length 192 (flatMap pointBytes (patch .points)) (omega (arith, written-length point-cells (patch .points)))
 
   table-length : length table ≡ 300
-  table-length = filled-length 300 (flatMap rowBytes (patch .rows)) (omega (arith, written-length row-cells (patch .rows)))
+  table-length = filled-length 300 (flatMap (rowBytes v) (patch .rows)) (omega (arith, written-length (row-cells v) (patch .rows)))
 
   front-length : length (head ++ coordinates) ≡ 208
   front-length = length-append head coordinates ∙ ap (λ n. 16 + n) coordinates-length
 
   -- the body is 508 bytes
-  pub body-length : length (bodyOf patch) ≡ bodyBytes
+  pub body-length : length (bodyOf v patch) ≡ bodyBytes
   unfolding bodyOf
   body-length = length-append (head ++ coordinates) table ∙ (ap (λ n. n + length table) front-length ∙ ap (λ n. 208 + n) table-length)
 
-  pub coordinates-at : (rest : List ℕ) → coordinatesOf (bodyOf patch ++ rest) ≡ coordinates
+  pub coordinates-at : (rest : List ℕ) → coordinatesOf (bodyOf v patch ++ rest) ≡ coordinates
   unfolding bodyOf
   coordinates-at rest =
       ap coordinatesOf (append-assoc (head ++ coordinates) table rest)
       ∙ part-at head coordinates (table ++ rest) pointsAt rowsAt refl (omega (arith, coordinates-length))
 
-  pub table-at : (rest : List ℕ) → tableOf (bodyOf patch ++ rest) ≡ table
+  pub table-at : (rest : List ℕ) → tableOf (bodyOf v patch ++ rest) ≡ table
   unfolding bodyOf
   table-at rest = part-at (head ++ coordinates) table rest rowsAt bodyBytes front-length (omega (arith, table-length))
 
-  -- the fields of the body are the patch, whatever stands behind it
-  pub body-read : (rest : List ℕ) → fieldsOf (bodyOf patch ++ rest) ≡ patch
-  unfolding fieldsOf
-  body-read rest =
-      let points = points-read (patch .points) (replicate (192 - length (flatMap pointBytes (patch .points))) 0) in
-      let rows = rows-read (patch .rows) (replicate (300 - length (flatMap rowBytes (patch .rows))) 0) in
-      rw (coordinates-at rest, table-at rest, points-at patch rest, rows-at patch rest, points, rows)
+  -- the rows and all behind them
+  behind-at : (rest : List ℕ) → drop rowsAt (bodyOf v patch ++ rest)
+      ≡ flatMap (rowBytes v) (patch .rows) ++ (replicate (300 - length (flatMap (rowBytes v) (patch .rows))) 0 ++ rest)
+  unfolding bodyOf
+  behind-at rest =
+      let bytes = flatMap (rowBytes v) (patch .rows) in
+      let zeros : List ℕ = replicate (300 - length bytes) 0 in
+      ap (drop rowsAt) (append-assoc (head ++ coordinates) table rest)
+      ∙ (drop-at (head ++ coordinates) (table ++ rest) rowsAt front-length ∙ append-assoc bytes zeros rest)
 
-  pub body-room : (rest : List ℕ) → bodyBytes ≤ length (bodyOf patch ++ rest)
-  body-room rest = omega (arith, length-append (bodyOf patch) rest, body-length)
+  -- the fields of the body are the patch, whatever stands behind it
+  pub body-read : T (every (roomy v) (patch .rows)) → (rest : List ℕ) → fieldsOf (bodyOf v patch ++ rest) ≡ patch
+  unfolding fieldsOf
+  body-read fit rest =
+      let block = bodyOf v patch ++ rest in
+      let points = points-read (patch .points) (replicate (192 - length (flatMap pointBytes (patch .points))) 0) in
+      let zeros : List ℕ = replicate (300 - length (flatMap (rowBytes v) (patch .rows))) 0 in
+      let rows = rows-read block (patch .rows) (zeros ++ rest) (rw (version-at v patch rest) fit) (rw (version-at v patch rest) (behind-at rest)) in
+      rw (coordinates-at rest, points-at v patch rest, rows-at v patch rest, points, rows)
+
+  pub body-room : (rest : List ℕ) → bodyBytes ≤ length (bodyOf v patch ++ rest)
+  body-room rest = omega (arith, length-append (bodyOf v patch) rest, body-length)
 
   -- the bytes are 512
-  pub bytes-length : length (bytesOf patch) ≡ blockBytes
-  bytes-length = length-append (bodyOf patch) (sumBytes (bodyOf patch)) ∙ rw (body-length, sum-bytes-length (bodyOf patch))
+  pub bytes-length : length (bytesOf v patch) ≡ blockBytes
+  bytes-length = length-append (bodyOf v patch) (sumBytes (bodyOf v patch)) ∙ rw (body-length, sum-bytes-length (bodyOf v patch))
 
 -- ---- a patch within the limits
 
+-- there is room for the region and the marks of each row
+pub room-for : (v : ℕ) (rows : List Row) → T (every (rowFits v) rows) → T (every (roomy v) rows)
+room-for v rows fit =
+    every-i (roomy v) rows (λ row m. and-r (every isByte (numbers row)) (roomy v row) (every-at (rowFits v) rows fit m))
+
 -- opening what was written of a patch within the limits gives the patch
-pub read-written : (patch : Patch) → Within patch → fieldsOf (bytesOf patch) ≡ patch
-read-written patch within = body-read patch (within .few-points) (within .few-rows) (sumBytes (bodyOf patch))
+pub read-written : (v : ℕ) (patch : Patch) → Within v patch → fieldsOf (bytesOf v patch) ≡ patch
+read-written v patch within =
+    body-read v patch (within .few-points) (within .few-rows) (room-for v (patch .rows) (within .rows-fit)) (sumBytes (bodyOf v patch))
 
 filled-bytes : (n : ℕ) (bytes : List ℕ) → T (every isByte bytes) → T (every isByte (filled n bytes))
 filled-bytes n bytes h = every-both isByte bytes (replicate (n - length bytes) 0) h (every-replicate isByte (n - length bytes) 0 tt)
 
-head-bytes : (n m : ℕ) → n ≤ maxPoints → m ≤ maxRows → T (every isByte (theVersion ∷ n ∷ m ∷ []))
+version-small : (v : ℕ) → T (isVersion v) → v < 256
+version-small v is = omega (arith, eqb→eq v plainVersion is)
+
+head-bytes : (v n m : ℕ) → T (isVersion v) → n ≤ maxPoints → m ≤ maxRows → T (every isByte (v ∷ n ∷ m ∷ []))
 unfolding every
-head-bytes n m h k =
+head-bytes v n m is h k =
     let a : n < 256 = omega arith in
     let b : m < 256 = omega arith in
-    rw (lt-ltb n 256 a, lt-ltb m 256 b) tt
+    let c : v < 256 = version-small v is in
+    rw (lt-ltb n 256 a, lt-ltb m 256 b, lt-ltb v 256 c) tt
+
+-- a row that fits is written in bytes
+row-written : (v : ℕ) (row : Row) → T (rowFits v row) → T (every isByte (rowBytes v row))
+unfolding every
+row-written v row fit =
+    let four = every isByte (numbers row) in
+    every-both isByte (numbers row) (labelByte v (labels row) ∷ []) (and-l four (roomy v row) fit)
+    (and-i (isByte (labelByte v (labels row))) true (lt→ltb _ 256 (labels-written v (labels row) (and-r four (roomy v row) fit) .1)) tt)
+
+rows-in-bytes : (v : ℕ) (rows : List Row) → T (every (rowFits v) rows) → T (every isByte (flatMap (rowBytes v) rows))
+unfolding flatMap every
+rows-in-bytes v [] fit = tt
+rows-in-bytes v (row ∷ rows) fit =
+    every-both isByte (rowBytes v row) (flatMap (rowBytes v) rows) (row-written v row (and-l (rowFits v row) (every (rowFits v) rows) fit))
+    (rows-in-bytes v rows (and-r (rowFits v row) (every (rowFits v) rows) fit))
 
 -- a patch within the limits is written in bytes
-pub bytes-written : (patch : Patch) → Within patch → T (every isByte (bytesOf patch))
+pub bytes-written : (v : ℕ) (patch : Patch) → Within v patch → T (every isByte (bytesOf v patch))
 unfolding bodyOf
-bytes-written patch within =
+bytes-written v patch within =
     let points = patch .points in
     let rows = patch .rows in
-    let head = filled-bytes pointsAt _ (head-bytes (length points) (length rows) (within .few-points) (within .few-rows)) in
+    let head = filled-bytes pointsAt _ (head-bytes v (length points) (length rows) (within .version-is) (within .few-points) (within .few-rows)) in
     let coordinates = filled-bytes 192 (flatMap pointBytes points) (within .coordinates) in
-    let table = filled-bytes 300 (flatMap rowBytes rows) (within .bytes) in
-    every-both isByte (bodyOf patch) (sumBytes (bodyOf patch)) (every-both isByte _ _ (every-both isByte _ _ head coordinates) table)
-    (sum-bytes (bodyOf patch))
+    let table = filled-bytes 300 (flatMap (rowBytes v) rows) (rows-in-bytes v rows (within .rows-fit)) in
+    every-both isByte (bodyOf v patch) (sumBytes (bodyOf v patch)) (every-both isByte _ _ (every-both isByte _ _ head coordinates) table)
+    (sum-bytes (bodyOf v patch))
 
 -- ---- the fields of a block
 
@@ -126,17 +171,33 @@ points-counted block = points-length (coordinatesOf block) (pointCount block)
 
 pub rows-counted : (block : List ℕ) → length (fieldsOf block .rows) ≡ rowCount block
 unfolding fieldsOf
-rows-counted block = rows-length (tableOf block) (rowCount block)
+rows-counted block = rows-length block (rowCount block)
 
-module _ (block : List ℕ) (room : bodyBytes ≤ length block) where
+-- the rows of a block of bytes fit its version
+pub rows-fit : (block : List ℕ) → T (every isByte block) → T (every (rowFits (version block)) (fieldsOf block .rows))
+unfolding fieldsOf
+rows-fit block are =
+    let n = rowCount block in
+    every-i (rowFits (version block)) (rowsIn block n) (λ row m.
+      let b = rows-bytes-of block (byte-below block are) n row m in
+      and-i (every isByte (numbers row)) (roomy (version block) row)
+      (every-i isByte (numbers row) (λ x k. lt→ltb x 256
+        (in-cases k (λ e. rw e (b .byte-p)) λ k. in-cases k (λ e. rw e (b .byte-q)) λ k. in-cases k (λ e. rw e (b .byte-r)) λ k.
+        in-cases k (λ e. rw e (b .byte-s)) λ k. absurd (List·Memᴰ·not-nil k))))
+      (rows-room block (byte-below block are) n row m))
+
+module _ (block : List ℕ) (room : bodyBytes ≤ length block) (are : T (every isByte block)) where
   -- the points and the rows of a block with counts within the limits, written, are the bytes that they were read from
 
   pub points-bytes : pointCount block ≤ maxPoints
       → flatMap pointBytes (fieldsOf block .points) ≡ take (pointSize * pointCount block) (coordinatesOf block)
   unfolding fieldsOf
-  points-bytes few = points-written (coordinatesOf block) (pointCount block)
+  points-bytes few = points-written (coordinatesOf block) (part-bytes pointsAt rowsAt block are) (pointCount block)
       (omega (arith, part-length pointsAt rowsAt block (omega arith)))
 
-  pub rows-bytes : rowCount block ≤ maxRows → flatMap rowBytes (fieldsOf block .rows) ≡ take (rowSize * rowCount block) (tableOf block)
+  pub rows-bytes : rowCount block ≤ maxRows
+      → flatMap (rowBytes (version block)) (fieldsOf block .rows) ≡ take (rowSize * rowCount block) (tableOf block)
   unfolding fieldsOf
-  rows-bytes few = rows-written (tableOf block) (rowCount block) (omega (arith, part-length rowsAt bodyBytes block room))
+  rows-bytes few =
+      rows-written block are (rowCount block) (omega arith)
+      ∙ sym (take-take (rowSize * rowCount block) (bodyBytes - rowsAt) (drop rowsAt block) (omega arith))

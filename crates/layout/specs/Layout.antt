@@ -8,7 +8,8 @@ use Rattle.lists.specs.Lists.{same}
 use Rattle.volume.specs.declared.Point.{Point}
 use Rattle.volume.specs.Volume.{pointsIn, pointBytes}
 use Rattle.rows.specs.declared.Row.{Row}
-use Rattle.rows.specs.Rows.{rowsIn, rowBytes}
+use Rattle.rows.specs.Labels.{plainVersion}
+use Rattle.rows.specs.Rows.{version, rowsAt, rowsIn, rowBytes}
 use Rattle.layout.specs.declared.Sums.{Sums}
 use Rattle.layout.specs.declared.Fields.{Fields}
 
@@ -23,8 +24,8 @@ abbrev pub bodyBytes : ℕ
 bodyBytes = 508
 
 -- byte 0: version, 1
-abbrev pub theVersion : ℕ
-theVersion = 1
+abbrev pub isVersion : ℕ → Bool
+isVersion version = eqb version plainVersion
 
 -- byte 1: points, 0 to 64
 abbrev pub maxPoints : ℕ
@@ -42,10 +43,6 @@ zerosAt = 3
 abbrev pub pointsAt : ℕ
 pointsAt = 16
 
--- bytes 208 to 507: rows
-abbrev pub rowsAt : ℕ
-rowsAt = 208
-
 -- both sums wrap at 65,536
 abbrev pub wrap : ℕ
 wrap = 2 ^ 16
@@ -60,10 +57,6 @@ pub record Patch : Type 0 where
 -- byte i
 abbrev pub byte : List ℕ → ℕ → ℕ
 byte block i = getD block i 0
-
--- byte 0
-abbrev pub version : List ℕ → ℕ
-version block = byte block 0
 
 -- byte 1
 abbrev pub pointCount : List ℕ → ℕ
@@ -81,7 +74,7 @@ part i j block = take (j - i) (drop i block)
 abbrev pub coordinatesOf : List ℕ → List ℕ
 coordinatesOf block = part pointsAt rowsAt block
 
--- bytes 208 to 507: 60 rows of 5 bytes
+-- bytes 208 to 507: 60 rows of 5 bytes, as they stand there
 abbrev pub tableOf : List ℕ → List ℕ
 tableOf block = part rowsAt bodyBytes block
 
@@ -89,7 +82,7 @@ tableOf block = part rowsAt bodyBytes block
 unfoldable pub fieldsOf : List ℕ → Patch
 fieldsOf block = record {
   points = pointsIn (coordinatesOf block) (pointCount block);
-  rows = rowsIn (tableOf block) (rowCount block);
+  rows = rowsIn block (rowCount block);
 }
 
 -- ---- writing
@@ -98,12 +91,12 @@ fieldsOf block = record {
 abbrev pub filled : ℕ → List ℕ → List ℕ
 filled n bytes = bytes ++ replicate (n - length bytes) 0
 
--- the first 508 bytes of a patch's block; bytes of points and rows beyond the counts are zero
-unfoldable pub bodyOf : Patch → List ℕ
-bodyOf patch =
-    filled pointsAt (theVersion ∷ length (patch .points) ∷ length (patch .rows) ∷ [])
+-- the first 508 bytes of a patch's block of a version; bytes of points and rows beyond the counts are zero
+unfoldable pub bodyOf : ℕ → Patch → List ℕ
+bodyOf version patch =
+    filled pointsAt (version ∷ length (patch .points) ∷ length (patch .rows) ∷ [])
     ++ filled (rowsAt - pointsAt) (flatMap pointBytes (patch .points))
-    ++ filled (bodyBytes - rowsAt) (flatMap rowBytes (patch .rows))
+    ++ filled (bodyBytes - rowsAt) (flatMap (rowBytes version) (patch .rows))
 
 -- for the bytes in order, the byte is added to the first sum, and then the first sum to the second
 unfoldable pub sumsOnto : Sums → List ℕ → Sums
@@ -128,9 +121,9 @@ sumBytes body = let sums = sumsOf body in twoBytes (sums .first) ++ twoBytes (su
 abbrev pub sealed : List ℕ → List ℕ
 sealed body = body ++ sumBytes body
 
--- the 512 bytes of a patch
-abbrev pub bytesOf : Patch → List ℕ
-bytesOf patch = sealed (bodyOf patch)
+-- the 512 bytes of a patch, in a version
+abbrev pub bytesOf : ℕ → Patch → List ℕ
+bytesOf version patch = sealed (bodyOf version patch)
 
 -- ---- what the sums and the fields are of any block
 
@@ -138,9 +131,10 @@ bytesOf patch = sealed (bodyOf patch)
 unfoldable pub sumWrong : List ℕ → Bool
 sumWrong block = not (same eqb (drop bodyBytes block) (sumBytes (take bodyBytes block)))
 
--- the counts, the coordinates and the rows, as they stand in the block
+-- the version, the counts, the coordinates and the rows, as they stand in the block
 abbrev pub openFields : List ℕ → Fields
 openFields block = record {
+  version = version block;
   points = pointCount block;
   rows = rowCount block;
   coordinates = coordinatesOf block;
@@ -150,6 +144,7 @@ openFields block = record {
 -- what stands beside a refusal
 abbrev pub noFields : Fields
 noFields = record {
+  version = 0;
   points = 0;
   rows = 0;
   coordinates = replicate (rowsAt - pointsAt) 0;

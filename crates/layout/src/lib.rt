@@ -7,26 +7,24 @@ ghost use lib.Dec.{eqb};
 ghost use lib.ListN.{length, getD, take, drop, set};
 ghost use Rattle.layout.specs.Layout.{blockBytes, bodyBytes, sumsOf, sealed, sumWrong, openFields, noFields};
 
+use rows::ROWS_AT;
+use rows::VERSION_AT;
+
 // The bytes of a block.
 pub const BLOCK_BYTES: usize = 512;
 
 // The bytes before the sums.
 pub const BODY_BYTES: usize = 508;
 
-// Byte 0.
-pub const VERSION: u8 = 1;
-
 // The most points, and the most rows.
 pub const MAX_POINTS: usize = 64;
 
 pub const MAX_ROWS: usize = 60;
 
-// Where the zero bytes, the points and the rows start.
+// Where the zero bytes and the points start.
 pub const ZEROS_AT: usize = 3;
 
 pub const POINTS_AT: usize = 16;
-
-pub const ROWS_AT: usize = 208;
 
 // The bytes of all points, and of all rows.
 pub const COORDINATE_BYTES: usize = ROWS_AT - POINTS_AT;
@@ -39,8 +37,9 @@ pub struct Sums {
     pub second: u16,
 }
 
-// The fields of a block: the counts, the 64 points of 3 bytes and the 60 rows of 5 bytes.
+// The fields of a block: the version, the counts, the 64 points of 3 bytes and the 60 rows of 5 bytes.
 pub struct Fields {
+    pub version: u8,
     pub points: u8,
     pub rows: u8,
     pub coordinates: [u8; COORDINATE_BYTES],
@@ -124,6 +123,7 @@ pub fn fields_of(block: &[u8]) -> Fields
     let mut table = [0u8; TABLE_BYTES];
     copy(&block[ROWS_AT..BODY_BYTES], &mut table);
     Fields {
+        version: block[VERSION_AT],
         points: block[1],
         rows: block[2],
         coordinates,
@@ -136,6 +136,7 @@ pub fn no_fields() -> Fields
     ensures { λ r. ⌜ r ≡ noFields ⌝ }
 {
     Fields {
+        version: 0,
         points: 0,
         rows: 0,
         coordinates: [0u8; COORDINATE_BYTES],

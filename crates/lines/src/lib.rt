@@ -1,9 +1,9 @@
 // The lines of a printout, each put behind a text.
 ghost use mathlib.Core.List.{flatMap};
 ghost use mathlib.Core.Path.{_≡_};
-ghost use Prim.Native.Nat.{_*_, _≤_};
+ghost use Prim.Native.Nat.{_+_, _*_, _≤_};
 ghost use lib.ListN.{length, take, drop};
-ghost use Rattle.rows.specs.Rows.{rowSize, rowsIn};
+ghost use Rattle.rows.specs.Rows.{rowsAt, rowSize, rowsIn};
 ghost use Rattle.ring.specs.Ring.{maxRing};
 ghost use Rattle.text.specs.Decimal.{decimal};
 ghost use Rattle.lines.specs.Lines.{spaced, lineEnd, ended, mark, scoreField, octaveField, summaryFields};
@@ -112,7 +112,7 @@ fn put_row(text: Text, row: Row) -> Text
 
 // The lines of the rows from row `from` on, of the first n.
 pub fn put_rows(text: Text, table: &[u8], from: usize, n: usize) -> Text
-    requires { ⌜ (from ≤ n) × (rowSize * n ≤ length (now table)) ⌝ }
+    requires { ⌜ (from ≤ n) × (rowsAt + rowSize * n ≤ length (now table)) ⌝ }
     ensures { λ r. ⌜ Behind text (flatMap rowLine (drop from (rowsIn (now (table .entry)) n))) r ⌝ }
 {
     let mut lines = text;

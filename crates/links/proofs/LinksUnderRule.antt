@@ -16,6 +16,7 @@ use Rattle.lists.proofs.Counts.{ind-yes, count-member}
 use Rattle.lists.proofs.Options.{pair-is}
 use Rattle.rows.specs.declared.Row.{Row}
 use Rattle.mesh.specs.Mesh.{Face, uses, numbersFit, keepsMeshRule, Proper}
+use Rattle.rows.specs.Labels.{noMarks}
 use Rattle.rows.specs.Rows.{numbers, holds, holdsEdge, noRow}
 use Rattle.rows.specs.Tetrahedra.{evenly, rearranged, arrangedFrom}
 use Rattle.mesh.proofs.TurnedFaces.{as-is, once, twice, stay, FaceOf, no-p, no-q, no-r, no-s, same-faces, uses-face, face-uses}
@@ -42,7 +43,7 @@ pub record LinkFits (count a b : ℕ) (l : Link) : Type 0 where
 
 -- the row (a,b,v,w) of a link v to w
 abbrev rowWith : ℕ → ℕ → Link → Row
-rowWith a b l = record { p = a; q = b; r = l .0; s = l .1; region = 0 }
+rowWith a b l = record { p = a; q = b; r = l .0; s = l .1; region = 0; marks = noMarks }
 
 module _ (a b : ℕ) (apart : a ≡ b → ⊥) where
   -- ---- one row

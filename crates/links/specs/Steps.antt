@@ -1,5 +1,5 @@
 -- What only contracts of inner functions and proofs say: a row that gives a link, a table with an edge, and the links as arrays hold them.
-use Prim.Native.Nat.{ℕ, _*_, _≤_, _<_}
+use Prim.Native.Nat.{ℕ, _*_, _≤_, _<_, _+_}
 use mathlib.Core.Bool.{cond}
 use mathlib.Core.List.{List, map}
 use mathlib.Core.Path.{_≡_}
@@ -9,7 +9,7 @@ use Rattle.lists.specs.Lists.{those, numbersFrom}
 use Rattle.rows.specs.declared.Row.{Row}
 use Rattle.rows.specs.declared.Regions.{Regions}
 use Rattle.rows.specs.declared.Regions.the-variants.{One}
-use Rattle.rows.specs.Rows.{rowSize, rowIn, rowsIn, holdsEdge}
+use Rattle.rows.specs.Rows.{rowsAt, rowSize, rowIn, rowsIn, holdsEdge}
 use Rattle.rows.specs.Steps.{withRegion}
 use Rattle.mesh.specs.Mesh.{numbersFit, keepsMeshRule}
 use Rattle.layout.specs.Layout.{maxRows}
@@ -33,7 +33,7 @@ pub record LinkedRow (a b : ℕ) (row : Row) : Type 0 where
 
 -- A table of n rows that keeps the mesh rule for some point count, and the ends of an edge in order.
 pub record Table (table : List ℕ) (n a b : ℕ) : Type 0 where
-  pub room : rowSize * n ≤ length table
+  pub room : rowsAt + rowSize * n ≤ length table
   pub few : n ≤ maxRows
   pub count : ℕ
   pub rule : T (keepsMeshRule count (rowsIn table n))

@@ -1,10 +1,10 @@
 // The numbers of the rows of a table: below the point count and all different.
-ghost use Prim.Native.Nat.{_*_, _<_, _≤_};
+ghost use Prim.Native.Nat.{_+_, _*_, _<_, _≤_};
 ghost use mathlib.Core.Path.{_≡_};
 ghost use lib.Dec.{ltb};
 ghost use lib.ListN.{length};
 ghost use Rattle.lists.specs.Lists.{every, different};
-ghost use Rattle.rows.specs.Rows.{rowSize, rowsIn, numbers};
+ghost use Rattle.rows.specs.Rows.{rowsAt, rowSize, rowsIn, numbers};
 ghost use Rattle.mesh.specs.Mesh.{numbersFit};
 use rows::Row;
 
@@ -58,7 +58,7 @@ fn fits(row: Row, count: usize) -> bool
 
 // The numbers of the first n rows are proper.
 pub fn all_fit(table: &[u8], n: usize, count: usize) -> bool
-    requires { ⌜ rowSize * n ≤ length (now table) ⌝ }
+    requires { ⌜ rowsAt + rowSize * n ≤ length (now table) ⌝ }
     ensures { λ r. ⌜ r ≡ every (numbersFit count) (rowsIn (now (table .entry)) n) ⌝ }
 {
     for i in 0..n {

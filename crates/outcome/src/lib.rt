@@ -12,10 +12,10 @@ use edge::larger;
 use edge::smaller;
 use layout::BODY_BYTES;
 use layout::POINTS_AT;
-use layout::ROWS_AT;
 use page::PageRow;
 use replacement::carry_out;
 use ring::Ring;
+use rows::ROWS_AT;
 
 // How many rows there are afterwards, and the page row.
 pub struct After {

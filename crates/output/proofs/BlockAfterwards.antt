@@ -8,9 +8,9 @@ use lib.ListN.{length, take, drop, set, replicate, length-append, length-take, l
 use lib.Seq.{take-at, take-take, drop-at, drop-drop, set-append-left, length-take-le}
 use Rattle.volume.specs.Volume.{pointBytes}
 use Rattle.rows.specs.declared.Row.{Row}
-use Rattle.rows.specs.Rows.{rowSize, rowBytes, rowsIn}
+use Rattle.rows.specs.Rows.{rowsAt, rowSize, rowBytes, rowsIn}
 use Rattle.rows.proofs.RowsOfTables.{rows-length}
-use Rattle.layout.specs.Layout.{blockBytes, bodyBytes, theVersion, maxRows, pointsAt, rowsAt}
+use Rattle.layout.specs.Layout.{blockBytes, bodyBytes, theVersion, maxRows, pointsAt}
 use Rattle.layout.specs.Layout.{part, fieldsOf, filled, bodyOf, sealed, bytesOf}
 use Rattle.block.specs.Opening.{openAnswer}
 use Rattle.layout.proofs.CellsReadBack.{point-cells, written-length, rows-written}

@@ -6,7 +6,8 @@ use native.Mathlib.Omega.{arith}
 use lib.ListN.{length, take, drop, set, replicate, length-replicate}
 use lib.Seq.{take-at, drop-at, length-take-le}
 use Rattle.rows.specs.declared.Row.{Row}
-use Rattle.layout.specs.Layout.{blockBytes, bodyBytes, maxRows, rowsAt, part, fieldsOf, sealed, bytesOf}
+use Rattle.rows.specs.Rows.{rowsAt}
+use Rattle.layout.specs.Layout.{blockBytes, bodyBytes, maxRows, part, fieldsOf, sealed, bytesOf}
 use Rattle.block.specs.Opening.{openAnswer}
 use Rattle.block.proofs.RightBlocks.{right-block}
 use Rattle.output.specs.Steps.{tableBytes, tableWith}

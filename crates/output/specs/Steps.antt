@@ -4,8 +4,8 @@ use mathlib.Core.List.{List, flatMap}
 use mathlib.Core.Path.{_≡_}
 use lib.ListN.{length, drop, replicate}
 use Rattle.rows.specs.declared.Row.{Row}
-use Rattle.rows.specs.Rows.{rowSize, rowBytes}
-use Rattle.layout.specs.Layout.{blockBytes, bodyBytes, maxRows, rowsAt, filled}
+use Rattle.rows.specs.Rows.{rowsAt, rowSize, rowBytes}
+use Rattle.layout.specs.Layout.{blockBytes, bodyBytes, maxRows, filled}
 use Rattle.block.specs.Opening.{openAnswer}
 
 -- 60 rows of 5 bytes

@@ -1,15 +1,15 @@
 // The block afterwards: the rows that stay, the new rows behind them, and the sums made anew.
 ghost use mathlib.Core.Path.{_≡_};
 ghost use mathlib.Core.List.{_++_, flatMap};
-ghost use Prim.Native.Nat.{_*_, _≤_};
+ghost use Prim.Native.Nat.{_+_, _*_, _≤_};
 ghost use lib.ListN.{length, take, drop, set, replicate};
-ghost use Rattle.rows.specs.Rows.{rowSize, rowBytes, rowsIn};
-ghost use Rattle.layout.specs.Layout.{blockBytes, bodyBytes, rowsAt, maxRows, fieldsOf, bytesOf, sealed};
+ghost use Rattle.rows.specs.Rows.{rowsAt, rowSize, rowBytes, rowsIn};
+ghost use Rattle.layout.specs.Layout.{blockBytes, bodyBytes, maxRows, fieldsOf, bytesOf, sealed};
 ghost use Rattle.block.specs.Opening.{openAnswer};
 ghost use Rattle.output.specs.Output.{stays, staying, patchWith};
 ghost use Rattle.output.specs.Steps.{Writable, tableBytes};
 use layout::BODY_BYTES;
-use layout::ROWS_AT;
+use rows::ROWS_AT;
 use rows::Row;
 
 // ---- the rows that stay
@@ -23,7 +23,7 @@ fn row_stays(row: Row, x: u8, y: u8, z: u8) -> bool
 
 // The rows that stay, in order, are written to the front of another table; their number is returned.
 pub fn keep_others(table: &[u8], n: usize, x: u8, y: u8, z: u8, rows: &mut [u8]) -> usize
-    requires { ⌜ (rowSize * n ≤ length (now table)) × (rowSize * n ≤ length (now rows)) ⌝ }
+    requires { ⌜ (rowsAt + rowSize * n ≤ length (now table)) × (rowsAt + rowSize * n ≤ length (now rows)) ⌝ }
     ensures { λ r. ⌜ (r ≡ length (staying x y z (rowsIn (now (table .entry)) n)))
         × (now (rows .exit) ≡ flatMap rowBytes (staying x y z (rowsIn (now (table .entry)) n))
         ++ drop (rowSize * r) (now (rows .entry))) ⌝ }

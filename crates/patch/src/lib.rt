@@ -11,7 +11,7 @@ pub use display::shown;
 pub use flip::flip;
 use layout::BODY_BYTES;
 use layout::POINTS_AT;
-use layout::ROWS_AT;
+use rows::ROWS_AT;
 pub use removal::page;
 pub use removal::remove;
 

@@ -3,7 +3,8 @@ use Prim.Native.Nat.{ℕ, _-_}
 use mathlib.Core.List.{List, _++_}
 use mathlib.Core.Path.{_≡_}
 use lib.ListN.{length, take, drop, set, replicate}
-use Rattle.layout.specs.Layout.{blockBytes, bodyBytes, rowsAt, sealed}
+use Rattle.rows.specs.Rows.{rowsAt}
+use Rattle.layout.specs.Layout.{blockBytes, bodyBytes, sealed}
 use Rattle.answers.specs.declared.Answer.the-variants.{Done}
 use Rattle.block.specs.Opening.{openAnswer}
 use Rattle.ring.specs.Ring.{siteOf}

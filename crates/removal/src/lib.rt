@@ -10,10 +10,10 @@ use calls::Removal;
 use calls::Removed;
 use edge::blocks_answer;
 use layout::BODY_BYTES;
-use layout::ROWS_AT;
 use layout::TABLE_BYTES;
 use outcome::replace;
 use ring::Ring;
+use rows::ROWS_AT;
 
 // A refusal, with its number and nothing else.
 fn refused(number: u8) -> Removed

@@ -20,10 +20,10 @@ use Rattle.score.specs.declared.WorstScore.the-variants.{Worst, NoRows}
 use Rattle.score.specs.declared.Octave.the-variants.{Exponent, NoUpright}
 use Rattle.quality.specs.Quality.{isUpright, isFlat, isInverted, worst}
 use Rattle.score.specs.Score.{highestScore, scoreFactor, octaveLimit, score, scoreOf, worstScore, octaveOf, octave, totalBadness}
-use Rattle.rows.specs.Rows.{rowIn}
+use Rattle.rows.specs.Rows.{rowsAt, rowIn}
 use Rattle.rows.specs.RowMeasure.{rowQuality}
 use Rattle.rows.proofs.RowsOfTables.{among-rows}
-use Rattle.layout.specs.Layout.{bodyBytes, rowsAt, byte, rowCount, tableOf, fieldsOf}
+use Rattle.layout.specs.Layout.{bodyBytes, byte, rowCount, tableOf, fieldsOf}
 use Rattle.layout.specs.Within.{isByte}
 use Rattle.layout.proofs.BytesOfSlices.{all-bytes, byte-most, part-bytes}
 use Rattle.layout.proofs.PatchWritten.{rows-counted}

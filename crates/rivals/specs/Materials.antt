@@ -45,7 +45,7 @@ roomFirst = removing (λ site.
 
 -- the row in a region
 abbrev inOne : ℕ → Row → Row
-inOne region row = record { p = row .p; q = row .q; r = row .r; s = row .s; region = region }
+inOne region row = record { p = row .p; q = row .q; r = row .r; s = row .s; region = region; marks = row .marks }
 
 -- one that takes every ring and chain, and gives the new rows the region of one row that went
 abbrev pub takingSeveral : Kernel

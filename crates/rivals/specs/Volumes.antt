@@ -36,7 +36,7 @@ takingBent = withRemove (λ block out e f.
 -- the last two numbers of the first row
 abbrev pub firstTurned : List Row → List Row
 firstTurned [] = []
-firstTurned (row ∷ rows) = record { p = row .p; q = row .q; r = row .s; s = row .r; region = row .region } ∷ rows
+firstTurned (row ∷ rows) = record { p = row .p; q = row .q; r = row .s; s = row .r; region = row .region; marks = row .marks } ∷ rows
 
 -- the patch afterwards, with the first new row so
 abbrev pub patchTurned : Site → Patch

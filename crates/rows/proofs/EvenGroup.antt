@@ -1,8 +1,8 @@
 -- Even rearrangements are a group, and one of them begins with any two numbers of the row. An even rearrangement is the row read at
 -- an even rearrangement of four places, and of those a computed test says all.
 use Prim.Native.Nat.{ℕ, _<_}
-use mathlib.Core.Bool.{Bool, _&&_, _||_}
-use mathlib.Core.List.{List·Memᴰ, List·Memᴰ·head, Memᴰ·map, Memᴰ·of-map}
+use mathlib.Core.Bool.{Bool, false, _&&_, _||_}
+use mathlib.Core.List.{List, [], _∷_, List·Memᴰ, List·Memᴰ·head, Memᴰ·map, Memᴰ·of-map}
 use mathlib.Core.Logic.{_⊎_, inl, inr}
 use mathlib.Core.Path.{_≡_, refl, sym, ap, _∙_, subst}
 use native.Mathlib.Omega.{arith}
@@ -15,11 +15,16 @@ use Rattle.lists.proofs.Numbers.{has-e, numbers-i}
 use Rattle.lists.proofs.Places.{in-at, at-in}
 use Rattle.lists.proofs.Images.{map-at}
 use Rattle.rows.specs.declared.Row.{Row}
+use Rattle.rows.specs.Labels.{noMarks}
 use Rattle.rows.specs.Rows.{numbers, holds, noRow}
 use Rattle.rows.specs.Tetrahedra.{evenly, sameRow, rearranged, arrangedFrom}
 use Rattle.rows.proofs.EvenMoves.{same-row, even-e, even-i}
 
--- the row whose numbers stand at the places that another row names
+-- the mark opposite to a place
+abbrev markAt : Row → ℕ → Bool
+markAt u i = let m = u .marks in getD (m .qrs ∷ m .psr ∷ m .pqs ∷ m .prq ∷ []) i false
+
+-- the row whose corners stand at the places that another row names
 abbrev pick : Row → Row → Row
 pick u σ = record {
   p = getD (numbers u) (σ .p) 0;
@@ -27,11 +32,12 @@ pick u σ = record {
   r = getD (numbers u) (σ .r) 0;
   s = getD (numbers u) (σ .s) 0;
   region = u .region;
+  marks = record { qrs = markAt u (σ .p); psr = markAt u (σ .q); pqs = markAt u (σ .r); prq = markAt u (σ .s) };
 }
 
 -- four places in order
 abbrev pub inOrder : Row
-inOrder = record { p = 0; q = 1; r = 2; s = 3; region = 0 }
+inOrder = record { p = 0; q = 1; r = 2; s = 3; region = 0; marks = noMarks }
 
 even-places : (t u : Row) → T (rearranged t u) → (σ : Row) × List·Memᴰ σ (evenly inOrder) × (t ≡ pick u σ)
 unfolding evenly
@@ -44,7 +50,21 @@ places-even u σ m = even-i (pick u σ) u (Memᴰ·map (pick u) m)
 -- reading at places twice
 pick-pick : (u σ τ : Row) → List·Memᴰ τ (evenly inOrder) → pick (pick u σ) τ ≡ pick u (pick σ τ)
 unfolding evenly every
-pick-pick u σ τ m = rw (at (τ .p) (small 0 (omega arith)), at (τ .q) (small 1 (omega arith)), at (τ .r) (small 2 (omega arith)), at (τ .s) (small 3 (omega arith)))
+pick-pick u σ τ m =
+    let p = small 0 (omega arith) in
+    let q = small 1 (omega arith) in
+    let r = small 2 (omega arith) in
+    let s = small 3 (omega arith) in
+    rw (
+      at (τ .p) p,
+      at (τ .q) q,
+      at (τ .r) r,
+      at (τ .s) s,
+      mark (τ .p) p,
+      mark (τ .q) q,
+      mark (τ .r) r,
+      mark (τ .s) s,
+    )
   where
     small : (j : ℕ) → j < 4 → getD (numbers τ) j 0 < 4
     small j h =
@@ -53,6 +73,9 @@ pick-pick u σ τ m = rw (at (τ .p) (small 0 (omega arith)), at (τ .q) (small 
 
     at : (i : ℕ) → i < 4 → getD (numbers (pick u σ)) i 0 ≡ getD (numbers u) (getD (numbers σ) i 0) 0
     at i h = map-at (λ k. getD (numbers u) k 0) (numbers σ) i 0 0 h
+
+    mark : (i : ℕ) → i < 4 → markAt (pick u σ) i ≡ markAt u (getD (numbers σ) i 0)
+    mark i h = map-at (markAt u) (numbers σ) i 0 false h
 
 -- the group
 

@@ -10,11 +10,14 @@ use Rattle.lists.proofs.Tests.{and-l, and-r, and-i, same-test}
 use Rattle.lists.proofs.Places.{in-cases, at-in}
 use Rattle.lists.proofs.Lists.{any-i, any-e, each}
 use Rattle.lists.proofs.Numbers.{has-i, has-e}
+use Rattle.rows.specs.declared.Marks.{Marks}
 use Rattle.rows.specs.declared.Row.{Row}
+use Rattle.rows.specs.Labels.{sameMarks}
 use Rattle.rows.specs.Rows.{numbers, holds}
-use Rattle.rows.specs.Tetrahedra.{evenly, sameRow, rearranged}
+use Rattle.rows.specs.Tetrahedra.{ofCorners, evenly, sameRow, rearranged}
+use Rattle.rows.proofs.LabelsReadBack.{same-marks, same-marks-refl}
 
--- rows compared by their bytes
+-- rows compared by their numbers, region and marks
 
 pub same-row : (t u : Row) → T (sameRow t u) → t ≡ u
 same-row t u h =
@@ -23,19 +26,26 @@ same-row t u h =
     let c = eqb (t .r) (u .r) in
     let d = eqb (t .s) (u .s) in
     let e = eqb (t .region) (u .region) in
-    let four = and-l (a && b && c && d) e h in
+    let n = sameMarks (t .marks) (u .marks) in
+    let five = and-l (a && b && c && d && e) n h in
+    let four = and-l (a && b && c && d) e five in
     let three = and-l (a && b && c) d four in
     let two = and-l (a && b) c three in
-    equal (t .p) (u .p) (t .q) (u .q) (t .r) (u .r) (t .s) (u .s) (t .region) (u .region)
+    equal (t .p) (u .p) (t .q) (u .q) (t .r) (u .r) (t .s) (u .s) (t .region) (u .region) (t .marks) (u .marks)
     (eqb→eq _ _ (and-l a b two)) (eqb→eq _ _ (and-r a b two)) (eqb→eq _ _ (and-r (a && b) c three))
-    (eqb→eq _ _ (and-r (a && b && c) d four)) (eqb→eq _ _ (and-r (a && b && c && d) e h))
+    (eqb→eq _ _ (and-r (a && b && c) d four)) (eqb→eq _ _ (and-r (a && b && c && d) e five))
+    (same-marks (t .marks) (u .marks) (and-r (a && b && c && d && e) n h))
   where
-    equal : (p p' q q' r r' s s' g g' : ℕ) → p ≡ p' → q ≡ q' → r ≡ r' → s ≡ s' → g ≡ g'
-        → _≡_ {A = Row} (record { p = p; q = q; r = r; s = s; region = g }) (record { p = p'; q = q'; r = r'; s = s'; region = g' })
-    equal p p' q q' r r' s s' g g' a b c d e = rw (a, b, c, d, e)
+    equal : (p p' q q' r r' s s' g g' : ℕ) (m m' : Marks) → p ≡ p' → q ≡ q' → r ≡ r' → s ≡ s' → g ≡ g' → m ≡ m'
+        → _≡_ {A = Row}
+        (record { p = p; q = q; r = r; s = s; region = g; marks = m })
+        (record { p = p'; q = q'; r = r'; s = s'; region = g'; marks = m' })
+    equal p p' q q' r r' s s' g g' m m' a b c d e f = rw (a, b, c, d, e, f)
 
 same-row-refl : (t : Row) → T (sameRow t t)
-same-row-refl t = search (and-i, eqb-refl) depth 8
+same-row-refl t =
+    and-i (eqb (t .p) (t .p) && eqb (t .q) (t .q) && eqb (t .r) (t .r) && eqb (t .s) (t .s) && eqb (t .region) (t .region))
+    (sameMarks (t .marks) (t .marks)) (search (and-i, eqb-refl) depth 8) (same-marks-refl (t .marks))
 
 pub even-e : (t u : Row) → T (rearranged t u) → List·Memᴰ t (evenly u)
 unfolding rearranged
@@ -47,13 +57,13 @@ even-i t u m = any-i (sameRow t) (evenly u) m (same-row-refl t)
 
 -- the two moves
 
--- the last three numbers turned round
+-- the last three corners turned round
 abbrev pub spin : Row → Row
-spin t = record { p = t .p; q = t .r; r = t .s; s = t .q; region = t .region }
+spin t = let m = t .marks in ofCorners (t .region) (t .p, m .qrs) (t .r, m .pqs) (t .s, m .prq) (t .q, m .psr)
 
 -- two pairs exchanged
 abbrev pub cross : Row → Row
-cross t = record { p = t .q; q = t .p; r = t .s; s = t .r; region = t .region }
+cross t = let m = t .marks in ofCorners (t .region) (t .q, m .psr) (t .p, m .qrs) (t .s, m .prq) (t .r, m .pqs)
 
 -- what both moves keep, every even rearrangement keeps
 pub moved : (P : Row → Type 0) → ((t : Row) → P t → P (spin t)) → ((t : Row) → P t → P (cross t))

@@ -1,3 +1,4 @@
+pub mod LabelsReadBack
 pub mod RowsOfTables
 pub mod PastedRows
 pub mod EvenMoves

@@ -5,11 +5,12 @@ use mathlib.Core.List.{List, [], _∷_, _++_, append-assoc, append-nil, flatMap}
 use mathlib.Core.Path.{_≡_, refl, sym, ap, _∙_}
 use native.Mathlib.Numerals.{add-one, add-two, add-three, add-four}
 use native.Mathlib.Omega.{arith}
-use lib.ListN.{length, take, drop, set, length-append, take-append-drop}
-use lib.Seq.{take-at, drop-append-add, drop-drop, length-take-le, sets-eq}
+use lib.ListN.{length, take, drop, set, length-append, take-append-drop, List·getD-append}
+use lib.Seq.{getD-take, take-at, drop-append-add, drop-drop, length-take-le, sets-eq}
 use Rattle.lists.proofs.Images.{flatMap-append}
 use Rattle.rows.specs.declared.Row.{Row}
-use Rattle.rows.specs.Rows.{rowSize, rowBytes, pasted, withRows}
+use Rattle.rows.specs.Labels.{labelByte}
+use Rattle.rows.specs.Rows.{version, rowsAt, rowSize, labels, rowBytes, pasted, withRows}
 
 -- ---- bytes
 
@@ -38,29 +39,42 @@ pasted-none table at =
 -- ---- rows
 
 -- the bytes of some rows
-pub rows-size : (rows : List Row) → length (flatMap rowBytes rows) ≡ rowSize * length rows
+pub rows-size : (version : ℕ) (rows : List Row) → length (flatMap (rowBytes version) rows) ≡ rowSize * length rows
 unfolding flatMap
-rows-size [] = refl
-rows-size (row ∷ rows) = let h = rows-size rows in omega arith
+rows-size version [] = refl
+rows-size version (row ∷ rows) = let h = rows-size version rows in omega arith
 
 -- one row: its five bytes stored one after the other
-pub with-one : (table : List ℕ) (i : ℕ) (row : Row) → rowSize * i + rowSize ≤ length table → (let at = rowSize * i in
-    set (set (set (set (set table at (row .p)) (at + 1) (row .q)) (at + 2) (row .r)) (at + 3) (row .s)) (at + 4) (row .region))
+pub with-one : (table : List ℕ) (i : ℕ) (row : Row) (byte : ℕ) → byte ≡ labelByte (version table) (labels row)
+    → rowsAt + rowSize * i + rowSize ≤ length table → (let at = rowsAt + rowSize * i in
+    set (set (set (set (set table at (row .p)) (at + 1) (row .q)) (at + 2) (row .r)) (at + 3) (row .s)) (at + 4) byte)
     ≡ withRows table i (row ∷ [])
 unfolding flatMap
-with-one table i row inside =
-    let at = rowSize * i in
-    rw (add-one at, add-two at, add-three at, add-four at) (sets-eq (rowBytes row) table at inside)
+with-one table i row byte e inside =
+    let at = rowsAt + rowSize * i in
+    rw (e, add-one at, add-two at, add-three at, add-four at) (sets-eq (rowBytes (version table) row) table at inside)
 
 -- no rows
 pub with-none : (table : List ℕ) (at : ℕ) {rows : List Row} → rows ≡ [] → table ≡ withRows table at rows
 unfolding flatMap
-with-none table at e = rw e (pasted-none table (rowSize * at))
+with-none table at e = rw e (pasted-none table (rowsAt + rowSize * at))
+
+-- the version stays
+pub with-version : (table : List ℕ) (at : ℕ) (rows : List Row) → rowsAt + rowSize * at ≤ length table → version (withRows table at rows) ≡ version table
+with-version table at rows h =
+    let n = rowsAt + rowSize * at in
+    let front = take n table in
+    let bytes = flatMap (rowBytes (version table)) rows in
+    let size = length-take-le n table h in
+    List·getD-append (front ++ bytes) (drop (n + length bytes) table) 0 0 (omega (arith, length-append front bytes))
+    ∙ (List·getD-append front bytes 0 0 (omega arith) ∙ getD-take n table 0 0 (omega arith))
 
 -- rows behind rows
-pub with-more : (table : List ℕ) (at next : ℕ) (xs ys : List Row) → at + length xs ≡ next → rowSize * at ≤ length table
+pub with-more : (table : List ℕ) (at next : ℕ) (xs ys : List Row) → at + length xs ≡ next → rowsAt + rowSize * at ≤ length table
     → withRows (withRows table at xs) next ys ≡ withRows table at (xs ++ ys)
 with-more table at next xs ys e h =
-    let size = rows-size xs in
-    pasted-pasted table (flatMap rowBytes xs) (flatMap rowBytes ys) (rowSize * at) (rowSize * next) h (omega arith)
-    ∙ ap (pasted table (rowSize * at)) (sym (flatMap-append rowBytes xs ys))
+    let v = version table in
+    let size = rows-size v xs in
+    rw (with-version table at xs h)
+    (pasted-pasted table (flatMap (rowBytes v) xs) (flatMap (rowBytes v) ys) (rowsAt + rowSize * at) (rowsAt + rowSize * next) h (omega arith)
+    ∙ ap (pasted table (rowsAt + rowSize * at)) (sym (flatMap-append (rowBytes v) xs ys)))

@@ -1,3 +1,4 @@
+pub mod Labels
 pub mod Rows
 pub mod Tetrahedra
 pub mod RowMeasure

@@ -17,6 +17,7 @@ use Rattle.lists.proofs.Places.{in-cases}
 use Rattle.volume.specs.declared.Point.{Point}
 use Rattle.rows.specs.declared.Row.{Row}
 use Rattle.mesh.specs.Mesh.{numbersFit, keepsMeshRule, Proper}
+use Rattle.rows.specs.Labels.{noMarks}
 use Rattle.rows.specs.Rows.{holdsEdge}
 use Rattle.rows.proofs.EvenGroup.{even-refl}
 use Rattle.mesh.proofs.MeshRuleStated.{fit-proper, keeps-fits}
@@ -133,7 +134,7 @@ module _ (points : List Point) (kept : List Row) (a b u v w region : ℕ) (order
       in-cases k (both row)
       λ k. in-cases k (both row) λ k. in-cases k (both row) λ k. absurd (List·Memᴰ·not-nil k)
     where
-      both : (row : Row) {x y : ℕ} → row ≡ record { p = a; q = b; r = x; s = y; region = region } → T (holdsEdge a b row)
+      both : (row : Row) {x y : ℕ} → row ≡ record { p = a; q = b; r = x; s = y; region = region; marks = noMarks } → T (holdsEdge a b row)
       both row e =
           rw e (and-i (has (a ∷ b ∷ _ ∷ _ ∷ []) a) (has (a ∷ b ∷ _ ∷ _ ∷ []) b)
           (has-i _ (List·Memᴰ·head refl)) (has-i _ (List·Memᴰ·tail (List·Memᴰ·head refl))))

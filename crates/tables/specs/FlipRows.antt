@@ -7,6 +7,7 @@ use lib.Dec.{T}
 use lib.ListN.{length}
 use Rattle.lists.specs.Lists.{every, any, those, count, has, different}
 use Rattle.rows.specs.declared.Row.{Row}
+use Rattle.rows.specs.Labels.{noMarks}
 use Rattle.rows.specs.Rows.{holds, holdsEdge, holdsFace}
 use Rattle.rows.specs.Regions.{regionOf}
 use Rattle.mesh.specs.Mesh.{keepsMeshRule}
@@ -26,8 +27,8 @@ off rows a b = those (λ row. not (holdsEdge a b row)) rows
 -- (a,u,v,w) and (u,v,w,b)
 abbrev pub rowsAcross : ℕ → ℕ → ℕ → ℕ → ℕ → ℕ → List Row
 rowsAcross a b u v w region =
-    record { p = a; q = u; r = v; s = w; region = region }
-    ∷ record { p = u; q = v; r = w; s = b; region = region } ∷ []
+    record { p = a; q = u; r = v; s = w; region = region; marks = noMarks }
+    ∷ record { p = u; q = v; r = w; s = b; region = region; marks = noMarks } ∷ []
 
 -- the new rows of the flip of a, b in the ring u, v, w: these two, with the region of the rows that go
 abbrev pub new32 : List Row → ℕ → ℕ → ℕ → ℕ → ℕ → List Row
@@ -64,7 +65,7 @@ pub record ReadFrom (rows : List Row) (x y z a u v w : ℕ) : Type 0 where
 -- (a,b,u,v), (a,b,v,w) and (a,b,w,u)
 abbrev pub rowsRound : ℕ → ℕ → ℕ → ℕ → ℕ → ℕ → List Row
 rowsRound a b u v w region =
-    let row : ℕ → ℕ → Row = λ r s. record { p = a; q = b; r = r; s = s; region = region } in
+    let row : ℕ → ℕ → Row = λ r s. record { p = a; q = b; r = r; s = s; region = region; marks = noMarks } in
     row u v ∷ row v w ∷ row w u ∷ []
 
 -- the new rows of the flip: these three, with the region of the rows that go

@@ -5,10 +5,10 @@ use mathlib.Core.Path.{_≡_, subst}
 use native.Mathlib.Omega.{arith}
 use lib.Dec.{T}
 use lib.ListN.{length}
-use Rattle.rows.specs.Rows.{rowsIn}
+use Rattle.rows.specs.Rows.{rowsAt, rowsIn}
 use Rattle.mesh.specs.Mesh.{keepsMeshRule}
 use Rattle.mesh.proofs.MeshRuleStated.{keeps-fits}
-use Rattle.layout.specs.Layout.{blockBytes, bodyBytes, maxPoints, maxRows, pointsAt, rowsAt, pointCount, rowCount, coordinatesOf, tableOf}
+use Rattle.layout.specs.Layout.{blockBytes, bodyBytes, maxPoints, maxRows, pointsAt, pointCount, rowCount, coordinatesOf, tableOf}
 use Rattle.layout.specs.Layout.{fieldsOf}
 use Rattle.block.specs.Opening.{openAnswer}
 use Rattle.block.specs.Holding.{RightBlock}

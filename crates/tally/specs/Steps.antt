@@ -1,5 +1,5 @@
 -- What only contracts of inner functions and proofs say: bytes that can be measured, and the worst of the qualities met so far.
-use Prim.Native.Nat.{ℕ, _*_, _≤_, _<_}
+use Prim.Native.Nat.{ℕ, _*_, _≤_, _<_, _+_}
 use mathlib.Core.List.{List}
 use lib.Dec.{T}
 use lib.ListN.{length}
@@ -7,7 +7,7 @@ use Rattle.lists.specs.Lists.{every}
 use Rattle.volume.specs.Volume.{pointSize}
 use Rattle.rows.specs.declared.Row.{Row}
 use Rattle.rows.specs.Steps.{mostRows}
-use Rattle.rows.specs.Rows.{rowSize, rowsIn}
+use Rattle.rows.specs.Rows.{rowsAt, rowSize, rowsIn}
 use Rattle.mesh.specs.Mesh.{numbersFit}
 use Rattle.quality.specs.declared.Quality.{Quality}
 use Rattle.quality.specs.Quality.{zeroQuality, worseOf}
@@ -25,7 +25,7 @@ pub record Placed (coordinates : List ℕ) (count : ℕ) (row : Row) : Type 0 wh
 -- The coordinates hold the points, the table holds the rows, and their numbers are proper.
 pub record Measured (coordinates : List ℕ) (count : ℕ) (table : List ℕ) (n : ℕ) : Type 0 where
   pub points-held : pointSize * count ≤ length coordinates
-  pub rows-held : rowSize * n ≤ length table
+  pub rows-held : rowsAt + rowSize * n ≤ length table
   pub rows-most : n ≤ mostRows
   pub proper : T (every (numbersFit count) (rowsIn table n))
 

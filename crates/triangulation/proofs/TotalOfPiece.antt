@@ -16,6 +16,7 @@ use Rattle.rows.proofs.EvenMeasure.{total-append}
 use Rattle.ring.specs.Ring.{Site}
 use Rattle.rows.specs.Regions.{regionOf}
 use Rattle.triangulation.specs.Triangulation.{Tri, side, cut, span, triangles, v, twoRows, newRows}
+use Rattle.rows.specs.Labels.{noMarks}
 
 -- two rows, then the totals of two tables
 two-and : (points : List Point) (t u : Row) (rows others : List Row)
@@ -56,9 +57,9 @@ module _ (site : Site) where
   unfolding newRows triangles twoRows flatMap rowD
   total-cut i l r =
       let t : Row =
-      record { p = site .a; q = v site i; r = v site (i + span l); s = v site (i + span l + span r); region = regionOf (site .removed) } in
+      record { p = site .a; q = v site i; r = v site (i + span l); s = v site (i + span l + span r); region = regionOf (site .removed); marks = noMarks } in
       let u : Row =
-      record { p = v site i; q = v site (i + span l); r = v site (i + span l + span r); s = site .b; region = regionOf (site .removed) } in
+      record { p = v site i; q = v site (i + span l); r = v site (i + span l + span r); s = site .b; region = regionOf (site .removed); marks = noMarks } in
       ap (λ (rows : List Row). totalD (site .points) (t ∷ u ∷ rows))
       (flatMap-append (twoRows site) (triangles i l) (triangles (i + span l) r))
       ∙ two-and (site .points) t u (newRows site i l) (newRows site (i + span l) r)

@@ -15,6 +15,7 @@ use Rattle.rows.specs.Regions.{regionOf}
 use Rattle.rows.proofs.RegionsOfRows.{AllIn, all-none, all-cons}
 use Rattle.triangulation.specs.Triangulation.{Tri, side, cut, span, Triangle, triangles, closingSides, diagonals, v, twoRows, newRows}
 use Rattle.triangulation.specs.Admissible.{keptUses, triangleFace, diagonalFaces, pieceAdmissible}
+use Rattle.rows.specs.Labels.{noMarks}
 
 -- ---- where a piece ends
 
@@ -41,10 +42,10 @@ triangles-cut i l r = rw (end-span (endOf i l) r, end-span i l)
 
 -- the a-row and the b-row of a triangle
 abbrev pub aRow : Site → ℕ → ℕ → ℕ → Row
-aRow site i k j = record { p = site .a; q = v site i; r = v site k; s = v site j; region = regionOf (site .removed) }
+aRow site i k j = record { p = site .a; q = v site i; r = v site k; s = v site j; region = regionOf (site .removed); marks = noMarks }
 
 abbrev pub bRow : Site → ℕ → ℕ → ℕ → Row
-bRow site i k j = record { p = v site i; q = v site k; r = v site j; s = site .b; region = regionOf (site .removed) }
+bRow site i k j = record { p = v site i; q = v site k; r = v site j; s = site .b; region = regionOf (site .removed); marks = noMarks }
 
 -- those of the triangle of the whole piece
 abbrev pub aTop : Site → ℕ → Tri → Tri → Row

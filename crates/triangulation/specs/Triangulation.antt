@@ -8,6 +8,7 @@ use Rattle.lists.specs.Lists.{numbersFrom}
 use Rattle.rows.specs.declared.Row.{Row}
 use Rattle.rows.specs.Regions.{regionOf}
 use Rattle.ring.specs.Ring.{Site, m}
+use Rattle.rows.specs.Labels.{noMarks}
 
 -- ---- triangulations
 
@@ -66,8 +67,8 @@ twoRows site t =
     let vk = v site (t .1) in
     let vj = v site (t .2) in
     let region = regionOf (site .removed) in
-    record { p = site .a; q = vi; r = vk; s = vj; region = region }
-    ∷ record { p = vi; q = vk; r = vj; s = site .b; region = region } ∷ []
+    record { p = site .a; q = vi; r = vk; s = vj; region = region; marks = noMarks }
+    ∷ record { p = vi; q = vk; r = vj; s = site .b; region = region; marks = noMarks } ∷ []
 
 -- the new rows of a triangulation of a piece from vi on, in written order
 unfoldable pub newRows : Site → ℕ → Tri → List Row

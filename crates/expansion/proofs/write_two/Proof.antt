@@ -6,6 +6,7 @@ use native.Mathlib.Omega.{arith}
 use denote.Ref.{now}
 use borrow.Author.Needs.{needs}
 use Rattle.rows.specs.declared.Row.{Row}
+use Rattle.rows.specs.Labels.{noMarks}
 use Rattle.rows.specs.Rows.{withRows}
 use Rattle.rows.proofs.PastedRows.{with-more}
 use Rattle.expansion.proofs.write_two.Statement.{statement}
@@ -29,8 +30,8 @@ returns c =
     let one = two .before .before .before .before in
     let s = one .before .before .before in
     let a = s .args in
-    let a-row : Row = record { p = a .rows .a; q = a .rows .x; r = a .rows .y; s = a .rows .z; region = a .region } in
-    let b-row : Row = record { p = a .rows .x; q = a .rows .y; r = a .rows .z; s = a .rows .b; region = a .region } in
+    let a-row : Row = record { p = a .rows .a; q = a .rows .x; r = a .rows .y; s = a .rows .z; region = a .region; marks = noMarks } in
+    let b-row : Row = record { p = a .rows .x; q = a .rows .y; r = a .rows .z; s = a .rows .b; region = a .region; marks = noMarks } in
     two .put-row2 .ensures
     ∙ ap (λ t. withRows t (a .at + 1) (b-row ∷ [])) (one .put-row .ensures)
     ∙ with-more (now (a .table)) (a .at) (a .at + 1) (a-row ∷ []) (b-row ∷ []) refl (omega (arith, s .pre))

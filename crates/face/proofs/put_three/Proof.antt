@@ -5,6 +5,7 @@ use mathlib.Core.Path.{_≡_, refl, ap, _∙_}
 use native.Mathlib.Omega.{arith}
 use lib.ListN.{length}
 use Rattle.rows.specs.declared.Row.{Row}
+use Rattle.rows.specs.Labels.{noMarks}
 use Rattle.rows.specs.Rows.{rowSize, withRows}
 use Rattle.rows.proofs.PastedRows.{with-more}
 use Rattle.links.specs.Links.{Link}
@@ -16,7 +17,7 @@ use Rattle.face.proofs.put_three.Tie as tie
 
 -- a row of the edge a, b
 abbrev rowOf : Sharing → ℕ → ℕ → ℕ → Row
-rowOf found region r s = record { p = found .a; q = found .b; r = r; s = s; region = region }
+rowOf found region r s = record { p = found .a; q = found .b; r = r; s = s; region = region; marks = noMarks }
 
 module _ (table one two three : List ℕ) (at : ℕ) (found : Sharing) (region u v w : ℕ) (l : Link) (room : rowSize * (at + 3) ≤ length table)
     (follow : (v, w) ≡ l) where

@@ -15,9 +15,9 @@ use Rattle.layout.proofs.fields_of.Tie as tie
 whole : (xs ys zs : List ℕ) → length xs ≡ length ys → zs ≡ xs ++ drop (length xs) ys → zs ≡ xs
 whole xs ys zs h e = e ∙ (ap (λ rest. xs ++ rest) (drop-of-length-le ys {i = length xs} (omega arith)) ∙ append-nil xs)
 
-same-fields : {p r : ℕ} {c d t u : List ℕ} → c ≡ d → t ≡ u
-    → _≡_ {A = Fields} (record { points = p; rows = r; coordinates = c; table = t })
-    (record { points = p; rows = r; coordinates = d; table = u })
+same-fields : {v p r : ℕ} {c d t u : List ℕ} → c ≡ d → t ≡ u
+    → _≡_ {A = Fields} (record { version = v; points = p; rows = r; coordinates = c; table = t })
+    (record { version = v; points = p; rows = r; coordinates = d; table = u })
 same-fields e f = rw (e, f)
 
 sub-copy : tie.Need-sub-copy
@@ -56,9 +56,12 @@ shared-slice-read-t17 c = search needs
 shared-slice-read-t19 : tie.Need-shared-slice-read-t19
 shared-slice-read-t19 c = search needs
 
+shared-slice-read-t21 : tie.Need-shared-slice-read-t21
+shared-slice-read-t21 c = search needs
+
 returns : tie.Need-returns
 returns c =
-    let second = c .before .before .before in
+    let second = c .before .before .before .before in
     let first = second .before .before .before .before in
     let start = first .before .before .before .before in
     let block = start .args .block .now in
@@ -83,4 +86,5 @@ fields-of-spec =
     copy-requires-2
     shared-slice-read-t17
     shared-slice-read-t19
+    shared-slice-read-t21
     returns)

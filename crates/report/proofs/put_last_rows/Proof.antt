@@ -1,6 +1,7 @@
 -- `put_last_rows` reads how many rows there are; a block that opens has the bytes of them all.
 use native.Mathlib.Omega.{arith}
-use Rattle.layout.specs.Layout.{bodyBytes, rowsAt, fieldsOf}
+use Rattle.rows.specs.Rows.{rowsAt}
+use Rattle.layout.specs.Layout.{bodyBytes, fieldsOf}
 use Rattle.layout.proofs.BlockParts.{part-length}
 use Rattle.block.proofs.RightBlocks.{right-block}
 use borrow.Author.Needs.{needs}
