@@ -66,7 +66,7 @@ pub same-key : (f g : Face) → T (sameFace f g) → faceKey f ≡ faceKey g
 same-key f g h = turned-equal (λ x y z. faceKey (x, y, z)) (λ x y z. key-turn (x, y, z)) f g (same-turned f g h)
 
 -- two faces compared by their keys
-key-test : (f g : Face) → Small f → Small g → eqb (faceKey f) (faceKey g) ≡ sameFace f g
+pub key-test : (f g : Face) → Small f → Small g → eqb (faceKey f) (faceKey g) ≡ sameFace f g
 key-test f g s t =
     same-test (eqb (faceKey f) (faceKey g)) (sameFace f g) (λ h. key-same f g s t (eqb→eq (faceKey f) (faceKey g) h))
     (λ h. eq-test (faceKey f) (faceKey g) (same-key f g h))

@@ -1,12 +1,12 @@
 // The rows of a table: reading and writing one by the version of its block, which numbers a row holds, and the regions of some rows.
-ghost use Prim.Native.Nat.{_+_, _*_, _≤_};
+ghost use Prim.Native.Nat.{_+_, _*_, _≤_, _<_};
 ghost use mathlib.Core.Path.{_≡_};
-ghost use mathlib.Core.Bool.{cond};
+ghost use mathlib.Core.Bool.{true, cond};
 ghost use mathlib.Core.List.{[], _∷_};
 ghost use lib.ListN.{length};
 ghost use Rattle.rows.specs.Labels.{noMarks, labelsOf, labelByte, markBits};
 ghost use Rattle.rows.specs.Rows.{rowsAt, rowSize, rowIn, withRows, holds, holdsEdge, holdsFace};
-ghost use Rattle.rows.specs.Steps.{withRegion};
+ghost use Rattle.rows.specs.Steps.{Unmarked, withRegion};
 
 // Where a block has its version, and where its rows start.
 pub const VERSION_AT: usize = 0;
@@ -137,6 +137,14 @@ pub fn put_row(table: &mut [u8], i: usize, row: Row)
     table[at + 2] = row.r;
     table[at + 3] = row.s;
     table[at + 4] = byte;
+}
+
+// No row of the table can be marked.
+pub fn unmarked(table: &[u8]) -> bool
+    requires { ⌜ 0 < length (now table) ⌝ }
+    ensures { λ r. ⌜ (r ≡ true → Unmarked (now (table .entry))) ⌝ }
+{
+    table[VERSION_AT] == PLAIN_VERSION
 }
 
 // A row without marks.

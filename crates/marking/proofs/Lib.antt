@@ -1,0 +1,2 @@
+pub mod MarkedKeys
+pub mod AgreeByKeys
