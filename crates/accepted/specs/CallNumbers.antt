@@ -5,11 +5,11 @@ use Rattle.calls.specs.Flipping.{byCount}
 
 -- the numbers that opening, the summary and what is shown answer
 abbrev pub openNumbers : List ℕ
-openNumbers = 0 ∷ 1 ∷ 2 ∷ 3 ∷ 4 ∷ 5 ∷ 7 ∷ 8 ∷ []
+openNumbers = 0 ∷ 1 ∷ 2 ∷ 3 ∷ 4 ∷ 5 ∷ 7 ∷ 8 ∷ 22 ∷ []
 
 -- the numbers that sealing answers
 abbrev pub sealNumbers : List ℕ
-sealNumbers = 0 ∷ 1 ∷ 3 ∷ 4 ∷ 5 ∷ 7 ∷ 8 ∷ []
+sealNumbers = 0 ∷ 1 ∷ 3 ∷ 4 ∷ 5 ∷ 7 ∷ 8 ∷ 22 ∷ []
 
 -- the numbers that a removal answers
 abbrev pub removeNumbers : List ℕ
@@ -21,4 +21,4 @@ flipNumbers =
     byCount
     (λ e f. openNumbers ++ (9 ∷ 10 ∷ 11 ∷ 12 ∷ 13 ∷ 20 ∷ 15 ∷ []))
     (λ x y z. openNumbers ++ (9 ∷ 10 ∷ 11 ∷ 18 ∷ 20 ∷ 14 ∷ 15 ∷ []))
-    (1 ∷ 2 ∷ 3 ∷ 4 ∷ 5 ∷ 7 ∷ 8 ∷ 21 ∷ [])
+    (1 ∷ 2 ∷ 3 ∷ 4 ∷ 5 ∷ 7 ∷ 8 ∷ 22 ∷ 21 ∷ [])

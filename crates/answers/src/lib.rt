@@ -8,8 +8,8 @@ pub const LENGTH: u8 = 1;
 // A sum is wrong.
 pub const SUM: u8 = 2;
 
-// The version is not 1.
-pub const NOT_VERSION_1: u8 = 3;
+// The version is neither 1 nor 2.
+pub const NOT_A_VERSION: u8 = 3;
 
 // There are more points or rows than there is room for.
 pub const COUNT: u8 = 4;
@@ -58,6 +58,12 @@ pub const TWO_REGIONS: u8 = 20;
 
 // Flip: neither two numbers nor three are given.
 pub const NOT_TWO_OR_THREE: u8 = 21;
+
+// A face stands in two rows, one of which marks it and the other does not.
+pub const MARKS_DISAGREE: u8 = 22;
+
+// A marked face would go.
+pub const MARK_GOES: u8 = 23;
 
 // What a call answers that gives nothing else: done, or the number of the refusal.
 pub enum Answer {

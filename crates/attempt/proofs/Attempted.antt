@@ -6,7 +6,7 @@ use native.Mathlib.Omega.{arith}
 use lib.Dec.{T}
 use Rattle.lists.specs.Lists.{every}
 use Rattle.answers.specs.declared.Answer.the-variants as Answer
-use Rattle.layout.specs.Layout.{pointCount, rowCount, coordinatesOf, tableOf, fieldsOf}
+use Rattle.layout.specs.Layout.{pointCount, rowCount, coordinatesOf, fieldsOf}
 use Rattle.answers.specs.Answers.{Tests, firstRefusal, answerOf}
 use Rattle.block.specs.Opening.{openAnswer}
 use Rattle.answers.proofs.Refusals.{goes-on}
@@ -71,7 +71,7 @@ module _ (block : List ℕ) (e f : ℕ) (opens : openAnswer block ≡ 0) (found 
     plan-answer : planAnswer (edgeSite block e f) ≡ attemptAnswer block e f
     plan-answer = ap planAnswer its-site ∙ sym verdict-left
 
-    given : Ringed (coordinatesOf block) (pointCount block) (tableOf block) (rowCount block) (min e f) (max e f) (found .closed)
+    given : Ringed (coordinatesOf block) (pointCount block) block (rowCount block) (min e f) (max e f) (found .closed)
         (found .ring)
     given = ringed orChains block e f opens found i h (min e f) (max e f) refl refl
 
@@ -91,9 +91,9 @@ module _ (block : List ℕ) (e f : ℕ) (opens : openAnswer block ≡ 0) (found 
           record {
             ends = ends-bytes orChains block e f opens found i h;
             ringed = given;
-            way = plan-way (coordinatesOf block) (pointCount block) (tableOf block) (rowCount block) (min e f) (max e f) given own;
+            way = plan-way (coordinatesOf block) (pointCount block) block (rowCount block) (min e f) (max e f) given own;
             own-region = plans .region own;
-            room = plan-room (coordinatesOf block) (pointCount block) (tableOf block) (rowCount block) (min e f) (max e f) given own;
+            room = plan-room (coordinatesOf block) (pointCount block) block (rowCount block) (min e f) (max e f) given own;
             stand = plans .apexes own;
           };
     }

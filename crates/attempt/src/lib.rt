@@ -7,7 +7,6 @@ use cells::CELLS;
 use edge::edge_at;
 use edge::larger;
 use edge::smaller;
-use layout::BODY_BYTES;
 use layout::POINTS_AT;
 use ring::Ring;
 use rows::ROWS_AT;
@@ -44,7 +43,7 @@ pub fn attempt(block: &[u8], e: usize, f: usize) -> Tried
     let planned = decide(
         &block[POINTS_AT..ROWS_AT],
         block[1] as usize,
-        &block[ROWS_AT..BODY_BYTES],
+        block,
         block[2] as usize,
         smaller(e, f),
         larger(e, f),

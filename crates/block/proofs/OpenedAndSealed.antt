@@ -12,13 +12,13 @@ use Rattle.layout.specs.Layout.{sealed, openFields, noFields}
 use Rattle.body.specs.Body.{bodyTests}
 use Rattle.block.specs.Opening.{openAnswer, openGives, sealAnswer, sealBytes}
 
--- opening answers 0 to 5, 7 and 8
-pub open-list : (block : List ℕ) → T (has (0 ∷ 1 ∷ 2 ∷ 3 ∷ 4 ∷ 5 ∷ 7 ∷ 8 ∷ []) (openAnswer block))
+-- opening answers 0 to 5, 7, 8 and 22
+pub open-list : (block : List ℕ) → T (has (0 ∷ 1 ∷ 2 ∷ 3 ∷ 4 ∷ 5 ∷ 7 ∷ 8 ∷ 22 ∷ []) (openAnswer block))
 unfolding openAnswer bodyTests
 open-list block = on-list _
 
--- sealing answers 0, 1, 3 to 5, 7 and 8
-pub seal-list : (body out : List ℕ) → T (has (0 ∷ 1 ∷ 3 ∷ 4 ∷ 5 ∷ 7 ∷ 8 ∷ []) (sealAnswer body out))
+-- sealing answers 0, 1, 3 to 5, 7, 8 and 22
+pub seal-list : (body out : List ℕ) → T (has (0 ∷ 1 ∷ 3 ∷ 4 ∷ 5 ∷ 7 ∷ 8 ∷ 22 ∷ []) (sealAnswer body out))
 unfolding sealAnswer bodyTests
 seal-list body out = on-list _
 

@@ -1,4 +1,4 @@
--- Requirement §9: opening and sealing, answers 1 to 8 (3 to 8 are the body's).
+-- Requirement §9: opening and sealing, answers 1 to 8 and 22 (those from 3 on are the body's).
 use Prim.Native.Nat.{ℕ}
 use mathlib.Core.Bool.{Bool, cond, not, _||_}
 use mathlib.Core.List.{List, _∷_}
@@ -32,7 +32,7 @@ openGives block =
 
 -- ---- sealing
 
--- sealing takes the first 508 bytes and writes the block, or refuses with 1 or 3 to 8
+-- sealing takes the first 508 bytes and writes the block, or refuses with 1, 3 to 8 or 22
 unfoldable pub sealAnswer : List ℕ → List ℕ → ℕ
 sealAnswer body out = firstRefusal ((1, notBody body || notBlock out) ∷ bodyTests body)
 

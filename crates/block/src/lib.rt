@@ -1,4 +1,4 @@
-// Opening and sealing a block: answers 1 to 8.
+// Opening and sealing a block: answers 1 to 8 and 22.
 ghost use mathlib.Core.Path.{_≡_};
 ghost use Rattle.answers.specs.Answers.{answerOf};
 ghost use Rattle.block.specs.Opening.{openAnswer, openGives, sealAnswer, sealBytes};

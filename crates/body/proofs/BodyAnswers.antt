@@ -1,40 +1,41 @@
--- Answers 3 to 8 one by one: what decides each, given what the tests above it found.
+-- Answers 3 to 8 and 22 one by one: what decides each, given what the tests above it found.
 use Prim.Native.Nat.{ℕ, _≤_, _<_}
 use mathlib.Core.Bool.{true, false}
 use mathlib.Core.List.{List, [], _∷_}
 use mathlib.Core.Path.{_≡_}
-use borrow.Author.Tests.{eq-eqb, ne-eqb, lt-ltb, le-ltb}
+use borrow.Author.Tests.{lt-ltb, le-ltb}
 use Rattle.answers.specs.declared.Answer.{Answer}
 use Rattle.answers.specs.declared.Answer.the-variants.{Done, Refused}
 use Rattle.answers.specs.Answers.{firstRefusal, answerOf}
 use Rattle.rows.specs.Rows.{version}
-use Rattle.layout.specs.Layout.{theVersion, maxPoints, maxRows, pointCount, rowCount, fieldsOf}
-use Rattle.body.specs.Body.{bodyTests, zeroMissing, numberWrong, faceTwice}
+use Rattle.layout.specs.Layout.{isVersion, maxPoints, maxRows, pointCount, rowCount, fieldsOf}
+use Rattle.body.specs.Body.{bodyTests, zeroMissing, numberWrong, faceTwice, marksDisagree}
 
 -- the answer to a body
 abbrev pub answerTo : List ℕ → Answer
 answerTo block = answerOf (firstRefusal (bodyTests block))
 
-pub refused-3 : (block : List ℕ) → (version block ≡ theVersion → ⊥) → Refused 3 ≡ answerTo block
+pub refused-3 : (block : List ℕ) → isVersion (version block) ≡ false → Refused 3 ≡ answerTo block
 unfolding bodyTests firstRefusal
-refused-3 block a = rw (ne-eqb (version block) theVersion a)
+refused-3 block a = rw a
 
-module _ (block : List ℕ) (a3 : version block ≡ theVersion) where
+module _ (block : List ℕ) (a3 : isVersion (version block) ≡ true) where
   pub refused-4-points : maxPoints < pointCount block → Refused 4 ≡ answerTo block
   unfolding bodyTests firstRefusal
-  refused-4-points a = rw (eq-eqb (version block) theVersion a3, lt-ltb maxPoints (pointCount block) a)
+  refused-4-points a = rw (a3, lt-ltb maxPoints (pointCount block) a)
 
   module _ (a4 : pointCount block ≤ maxPoints) where
     pub refused-4-rows : maxRows < rowCount block → Refused 4 ≡ answerTo block
     unfolding bodyTests firstRefusal
-    refused-4-rows a = rw (eq-eqb (version block) theVersion a3, le-ltb maxPoints (pointCount block) a4, lt-ltb maxRows (rowCount block) a)
+    refused-4-rows a = rw (a3, le-ltb maxPoints (pointCount block) a4, lt-ltb maxRows (rowCount block) a)
 
     module _ (b4 : rowCount block ≤ maxRows) where
       passed-4 : firstRefusal (bodyTests block) ≡ firstRefusal (
-          (5, zeroMissing block) ∷ (7, numberWrong (fieldsOf block)) ∷ (8, faceTwice (fieldsOf block)) ∷ []
+          (5, zeroMissing block) ∷ (7, numberWrong (fieldsOf block)) ∷ (8, faceTwice (fieldsOf block))
+          ∷ (22, marksDisagree (fieldsOf block)) ∷ []
           )
       unfolding bodyTests firstRefusal
-      passed-4 = rw (eq-eqb (version block) theVersion a3, le-ltb maxPoints (pointCount block) a4, le-ltb maxRows (rowCount block) b4)
+      passed-4 = rw (a3, le-ltb maxPoints (pointCount block) a4, le-ltb maxRows (rowCount block) b4)
 
       pub refused-5 : zeroMissing block ≡ true → Refused 5 ≡ answerTo block
       unfolding firstRefusal
@@ -49,6 +50,12 @@ module _ (block : List ℕ) (a3 : version block ≡ theVersion) where
         unfolding firstRefusal
         refused-8 a7 a = rw (passed-4, a5, a7, a)
 
-        pub all-right : numberWrong (fieldsOf block) ≡ false → faceTwice (fieldsOf block) ≡ false → Done ≡ answerTo block
+        pub refused-22 : numberWrong (fieldsOf block) ≡ false → faceTwice (fieldsOf block) ≡ false → marksDisagree (fieldsOf block) ≡ true
+            → Refused 22 ≡ answerTo block
         unfolding firstRefusal
-        all-right a7 a = rw (passed-4, a5, a7, a)
+        refused-22 a7 a8 a = rw (passed-4, a5, a7, a8, a)
+
+        pub all-right : numberWrong (fieldsOf block) ≡ false → faceTwice (fieldsOf block) ≡ false → marksDisagree (fieldsOf block) ≡ false
+            → Done ≡ answerTo block
+        unfolding firstRefusal
+        all-right a7 a8 a = rw (passed-4, a5, a7, a8, a)

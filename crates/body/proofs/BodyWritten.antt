@@ -1,5 +1,5 @@
--- What is written of a patch that keeps the rule is a right body; the fields of a right body, written, are the body. What answers 7 and 8
--- test is in the bytes what it is in the fields.
+-- What is written of a patch that keeps the rule is a right body; the fields of a right body, written, are the body. What answers 7, 8 and
+-- 22 test is in the bytes what it is in the fields.
 use Prim.Native.Nat.{ℕ, _+_, _-_, _*_, _≤_}
 use mathlib.Core.Bool.{not}
 use mathlib.Core.List.{List, [], _∷_, _++_, flatMap}
@@ -12,53 +12,62 @@ use Rattle.volume.specs.Volume.{pointBytes}
 use Rattle.volume.proofs.PointsInBytes.{points-length}
 use Rattle.rows.specs.Rows.{version, rowBytes, rowsIn}
 use Rattle.mesh.specs.Mesh.{numbersFit, facesApart}
-use Rattle.layout.specs.Layout.{Patch, bodyBytes, maxPoints, maxRows, zerosAt, pointsAt, pointCount, rowCount, part, coordinatesOf}
+use Rattle.marking.specs.Marking.{agree}
+use Rattle.layout.specs.Layout.{Patch, bodyBytes, isVersion, maxPoints, maxRows, zerosAt, pointsAt, pointCount, rowCount, part, coordinatesOf}
 use Rattle.layout.specs.Layout.{tableOf, fieldsOf, filled, bodyOf}
-use Rattle.layout.proofs.CellsReadBack.{point-cells, row-cells, written-length}
+use Rattle.layout.specs.Within.{isByte}
+use Rattle.layout.proofs.CellsReadBack.{point-cells, row-cells, roomy, written-length}
 use Rattle.layout.proofs.BlockParts.{part-cut, zero-behind, filled-behind}
 use Rattle.layout.proofs.PatchWritten.{coordinates-at, table-at, points-at, rows-at, version-at, zeros-at, body-read}
 use Rattle.layout.proofs.PatchWritten.{body-room, points-counted, rows-counted, points-bytes, rows-bytes}
-use Rattle.body.specs.Body.{numberWrong, faceTwice, keepsRule, RightBody}
+use Rattle.body.specs.Body.{numberWrong, faceTwice, marksDisagree, keepsRule, RightBody}
 
 -- ---- a written patch
 
-module _ (patch : Patch) (few-points : length (patch .points) ≤ maxPoints) (few-rows : length (patch .rows) ≤ maxRows) where
+module _ (v : ℕ) (patch : Patch) (few-points : length (patch .points) ≤ maxPoints) (few-rows : length (patch .rows) ≤ maxRows) where
   -- a written patch is a right body, whatever stands behind it
-  pub body-right : T (keepsRule patch) → (rest : List ℕ) → RightBody (bodyOf patch ++ rest)
-  body-right rule rest =
-      let block = bodyOf patch ++ rest in
+  pub body-right : T (isVersion v) → T (every (roomy v) (patch .rows)) → T (keepsRule patch) → T (agree (patch .rows)) → (rest : List ℕ)
+      → RightBody (bodyOf v patch ++ rest)
+  body-right is fit rule agrees rest =
+      let block = bodyOf v patch ++ rest in
       let points = patch .points in
       let rows = patch .rows in
-      let fields = body-read patch few-points few-rows rest in
-      let room = body-room patch few-points few-rows rest in
+      let fields = body-read v patch few-points few-rows fit rest in
+      let room = body-room v patch few-points few-rows rest in
       record {
-        version-is = version-at patch rest;
-        few-points = rw (points-at patch rest) few-points;
-        few-rows = rw (rows-at patch rest) few-rows;
-        zeros = zeros-at patch rest;
+        version-is = rw (version-at v patch rest) is;
+        few-points = rw (points-at v patch rest) few-points;
+        few-rows = rw (rows-at v patch rest) few-rows;
+        zeros = zeros-at v patch rest;
         zero-points =
-            rw (points-at patch rest)
+            rw (points-at v patch rest)
             (zero-behind 16 208 (3 * length points) block (flatMap pointBytes points) (omega arith) (omega arith)
-            (written-length point-cells points) (coordinates-at patch few-points few-rows rest));
+            (written-length point-cells points) (coordinates-at v patch few-points few-rows rest));
         zero-rows =
-            rw (rows-at patch rest)
-            (zero-behind 208 508 (5 * length rows) block (flatMap rowBytes rows) room (omega arith)
-            (written-length row-cells rows) (table-at patch few-points few-rows rest));
+            rw (rows-at v patch rest)
+            (zero-behind 208 508 (5 * length rows) block (flatMap (rowBytes v) rows) room (omega arith)
+            (written-length (row-cells v) rows) (table-at v patch few-points few-rows rest));
         rule = rw fields rule;
+        agrees = rw fields agrees;
       }
 
 -- ---- what the tests of the bytes say of the fields
 
 -- the numbers that are tested are those of the rows, against the count
 pub numbers-tested : (block : List ℕ)
-    → numberWrong (fieldsOf block) ≡ not (every (numbersFit (pointCount block)) (rowsIn (tableOf block) (rowCount block)))
+    → numberWrong (fieldsOf block) ≡ not (every (numbersFit (pointCount block)) (rowsIn block (rowCount block)))
 unfolding numberWrong fieldsOf
 numbers-tested block = rw points-length
 
 -- the faces that are tested are those of the rows
-pub faces-tested : (block : List ℕ) → faceTwice (fieldsOf block) ≡ not (facesApart (rowsIn (tableOf block) (rowCount block)))
+pub faces-tested : (block : List ℕ) → faceTwice (fieldsOf block) ≡ not (facesApart (rowsIn block (rowCount block)))
 unfolding fieldsOf
 faces-tested block = refl
+
+-- the marks that are compared are those of the rows
+pub marks-tested : (block : List ℕ) → marksDisagree (fieldsOf block) ≡ not (agree (rowsIn block (rowCount block)))
+unfolding fieldsOf
+marks-tested block = refl
 
 -- ---- a right body
 
@@ -81,15 +90,15 @@ three-parts block =
     ap (λ xs. xs ++ tableOf block) (sym (part-cut 0 16 208 block (omega arith) (omega arith)))
     ∙ sym (part-cut 0 208 508 block (omega arith) (omega arith))
 
-module _ (block : List ℕ) (room : bodyBytes ≤ length block) (right : RightBody block) where
-  -- the fields, written, are the first 508 bytes
-  pub body-written : bodyOf (fieldsOf block) ≡ take bodyBytes block
+module _ (block : List ℕ) (room : bodyBytes ≤ length block) (are : T (every isByte block)) (right : RightBody block) where
+  -- the fields of a block of bytes, written in its version, are the first 508 bytes
+  pub body-written : bodyOf (version block) (fieldsOf block) ≡ take bodyBytes block
   unfolding bodyOf
   body-written =
       three-same
-      (head-same (sym (right .version-is)) (points-counted block) (rows-counted block) (sym (right .zeros)) ∙ sym (front block room))
-      (ap (filled 192) (points-bytes block room (right .few-points))
+      (head-same refl (points-counted block) (rows-counted block) (sym (right .zeros)) ∙ sym (front block room))
+      (ap (filled 192) (points-bytes block room are (right .few-points))
       ∙ filled-behind 16 208 (3 * pointCount block) block (omega arith) (omega (arith, right .few-points)) (right .zero-points))
-      (ap (filled 300) (rows-bytes block room (right .few-rows))
+      (ap (filled 300) (rows-bytes block room are (right .few-rows))
       ∙ filled-behind 208 508 (5 * rowCount block) block room (omega (arith, right .few-rows)) (right .zero-rows))
       ∙ three-parts block

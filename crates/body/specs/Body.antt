@@ -1,4 +1,4 @@
--- Requirement §9: answers 3 to 8 (6 is unused), which the first 508 bytes get; and what they test, as a statement.
+-- Requirement §9: answers 3 to 8 (6 is unused) and 22, which the first 508 bytes get; and what they test, as a statement.
 use Prim.Native.Nat.{ℕ, _+_, _*_, _-_, _≤_}
 use mathlib.Core.Bool.{Bool, not, _||_}
 use mathlib.Core.List.{List, [], _∷_}
@@ -10,14 +10,15 @@ use Rattle.volume.specs.Volume.{pointSize}
 use Rattle.answers.specs.Answers.{Tests}
 use Rattle.rows.specs.Rows.{version, rowsAt, rowSize}
 use Rattle.mesh.specs.Mesh.{numbersFit, facesApart, keepsMeshRule}
-use Rattle.layout.specs.Layout.{Patch, bodyBytes, theVersion, maxPoints, maxRows, zerosAt, pointsAt}
+use Rattle.marking.specs.Marking.{agree}
+use Rattle.layout.specs.Layout.{Patch, bodyBytes, isVersion, maxPoints, maxRows, zerosAt, pointsAt}
 use Rattle.layout.specs.Layout.{pointCount, rowCount, part, fieldsOf}
 
 -- ---- what each answer is given for
 
--- 3: version is not 1
+-- 3: version is neither 1 nor 2
 abbrev pub versionWrong : List ℕ → Bool
-versionWrong block = not (eqb (version block) theVersion)
+versionWrong block = not (isVersion (version block))
 
 -- 4: a count is over its limit
 abbrev pub countOver : List ℕ → Bool
@@ -42,14 +43,19 @@ numberWrong patch = not (every (numbersFit (length (patch .points))) (patch .row
 abbrev pub faceTwice : Patch → Bool
 faceTwice patch = not (facesApart (patch .rows))
 
--- 3 to 8 without 6, which opening and sealing share
+-- 22: a face stands in two rows, one of which marks it and the other does not
+abbrev pub marksDisagree : Patch → Bool
+marksDisagree patch = not (agree (patch .rows))
+
+-- 3 to 8 without 6, then 22, which opening and sealing share
 unfoldable pub bodyTests : List ℕ → Tests
 bodyTests block =
     (3, versionWrong block)
     ∷ (4, countOver block)
     ∷ (5, zeroMissing block)
     ∷ (7, numberWrong (fieldsOf block))
-    ∷ (8, faceTwice (fieldsOf block)) ∷ []
+    ∷ (8, faceTwice (fieldsOf block))
+    ∷ (22, marksDisagree (fieldsOf block)) ∷ []
 
 -- ---- a right body
 
@@ -57,9 +63,9 @@ bodyTests block =
 abbrev pub keepsRule : Patch → Bool
 keepsRule patch = keepsMeshRule (length (patch .points)) (patch .rows)
 
--- What answers 3 to 8 test, met by the first 508 bytes.
+-- What answers 3 to 8 and 22 test, met by the first 508 bytes.
 pub record RightBody (block : List ℕ) : Type 0 where
-  pub version-is : version block ≡ theVersion
+  pub version-is : T (isVersion (version block))
   pub few-points : pointCount block ≤ maxPoints
   pub few-rows : rowCount block ≤ maxRows
   pub zeros : part zerosAt pointsAt block ≡ replicate (pointsAt - zerosAt) 0
@@ -67,3 +73,4 @@ pub record RightBody (block : List ℕ) : Type 0 where
       ≡ replicate (rowsAt - (pointsAt + pointSize * pointCount block)) 0
   pub zero-rows : part (rowsAt + rowSize * rowCount block) bodyBytes block ≡ replicate (bodyBytes - (rowsAt + rowSize * rowCount block)) 0
   pub rule : T (keepsRule (fieldsOf block))
+  pub agrees : T (agree (fieldsOf block .rows))

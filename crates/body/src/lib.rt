@@ -1,4 +1,4 @@
-// The first 508 bytes of a block: answers 3 to 8; 6 is unused.
+// The first 508 bytes of a block: answers 3 to 8, of which 6 is unused, and 22.
 ghost use Prim.Native.Nat.{_+_, _≤_, _<_};
 ghost use mathlib.Core.Bool.{not};
 ghost use mathlib.Core.Path.{_≡_};
@@ -7,16 +7,16 @@ ghost use lib.ListN.{length};
 ghost use Rattle.lists.specs.Lists.{any};
 ghost use Rattle.answers.specs.Answers.{firstRefusal, answerOf};
 ghost use Rattle.layout.specs.Layout.{bodyBytes, maxPoints, maxRows, pointCount, rowCount, fieldsOf};
-ghost use Rattle.body.specs.Body.{zeroMissing, numberWrong, faceTwice, bodyTests};
+ghost use Rattle.body.specs.Body.{zeroMissing, numberWrong, faceTwice, marksDisagree, bodyTests};
 use answers::Answer;
 use layout::BODY_BYTES;
 use layout::MAX_POINTS;
 use layout::MAX_ROWS;
 use layout::POINTS_AT;
-use layout::VERSION;
 use layout::ZEROS_AT;
 use rows::ROWS_AT;
 use rows::ROW_SIZE;
+use rows::VERSION_AT;
 use volume::POINT_SIZE;
 
 // Some byte is not zero.
@@ -55,7 +55,7 @@ fn number_wrong(block: &[u8]) -> bool
     ensures { λ r. ⌜ r ≡ numberWrong (fieldsOf (now (block .entry))) ⌝ }
 {
     let rows = block[2] as usize;
-    !mesh::all_fit(&block[ROWS_AT..BODY_BYTES], rows, block[1] as usize)
+    !mesh::all_fit(block, rows, block[1] as usize)
 }
 
 // A directed face stands in two rows.
@@ -65,16 +65,26 @@ fn face_twice(block: &[u8]) -> bool
     ensures { λ r. ⌜ r ≡ faceTwice (fieldsOf (now (block .entry))) ⌝ }
 {
     let rows = block[2] as usize;
-    !keys::all_apart(&block[ROWS_AT..BODY_BYTES], rows)
+    !keys::all_apart(block, rows)
 }
 
-// Answers 3 to 8, which opening and sealing share.
+// A face stands in two rows, one of which marks it and the other does not.
+fn marks_disagree(block: &[u8]) -> bool
+    requires { ⌜ bodyBytes ≤ length (now block) ⌝ }
+    requires { ⌜ rowCount (now block) ≤ maxRows ⌝ }
+    ensures { λ r. ⌜ r ≡ marksDisagree (fieldsOf (now (block .entry))) ⌝ }
+{
+    let rows = block[2] as usize;
+    !marking::all_agree(block, rows)
+}
+
+// Answers 3 to 8 and 22, which opening and sealing share.
 pub fn body_answer(block: &[u8]) -> Answer
     requires { ⌜ bodyBytes ≤ length (now block) ⌝ }
     ensures { λ r. ⌜ r ≡ answerOf (firstRefusal (bodyTests (now (block .entry)))) ⌝ }
 {
-    if block[0] != VERSION {
-        return Answer::Refused(answers::NOT_VERSION_1);
+    if !layout::is_version(block[VERSION_AT]) {
+        return Answer::Refused(answers::NOT_A_VERSION);
     }
     if MAX_POINTS < block[1] as usize {
         return Answer::Refused(answers::COUNT);
@@ -90,6 +100,9 @@ pub fn body_answer(block: &[u8]) -> Answer
     }
     if face_twice(block) {
         return Answer::Refused(answers::FACE_TWICE);
+    }
+    if marks_disagree(block) {
+        return Answer::Refused(answers::MARKS_DISAGREE);
     }
     Answer::Done
 }

@@ -33,7 +33,7 @@ use Rattle.score.proofs.OctaveLargest.{OctaveIs as OctaveOf, octave-of-rows, oc
 use Rattle.rows.specs.declared.Row.{Row}
 use Rattle.rows.specs.Rows.{rowsAt, rowsIn}
 use Rattle.rows.specs.RowMeasure.{place, rowD, rowS, rowQuality}
-use Rattle.layout.specs.Layout.{Patch, pointsAt, pointCount, rowCount, coordinatesOf, tableOf, fieldsOf}
+use Rattle.layout.specs.Layout.{Patch, pointsAt, pointCount, rowCount, coordinatesOf, fieldsOf}
 use Rattle.block.proofs.RightBlocks.{opens}
 use Rattle.summary.specs.declared.Summary.{Summary}
 use Rattle.tally.specs.Tally.{qualities}
@@ -235,7 +235,7 @@ summary-of-block block bytes right =
     let its = coordinatesOf block in
     let own = part-bytes pointsAt rowsAt block bytes in
     let n = pointCount block in
-    let rows = rowsIn (tableOf block) (rowCount block) in
+    let rows = rowsIn block (rowCount block) in
     (summaryOf (fieldsOf block), summary-opened block (opens block right), sums its own n rows, λ row m. bounded its own n rows row)
 
 pub sums-fit : SumsFit

@@ -14,7 +14,7 @@ use Rattle.rows.specs.Rows.{noRow}
 use Rattle.display.specs.Display.{rowShown}
 use Rattle.answers.specs.declared.Answer.{Answer}
 use Rattle.answers.specs.declared.Answer.the-variants.{Done, Refused}
-use Rattle.layout.specs.Layout.{maxRows, pointCount, rowCount, coordinatesOf, tableOf, fieldsOf}
+use Rattle.layout.specs.Layout.{maxRows, pointCount, rowCount, coordinatesOf, fieldsOf}
 use Rattle.answers.specs.Answers.{answerOf}
 use Rattle.block.specs.Opening.{openAnswer}
 use Rattle.block.proofs.OpenedAndSealed.{open-list}
@@ -29,11 +29,11 @@ module _ (block : List ℕ) (out : List Float) where
   -- ---- what the call promises
 
   -- the answers
-  pub shown-list : T (has (0 ∷ 1 ∷ 2 ∷ 3 ∷ 4 ∷ 5 ∷ 7 ∷ 8 ∷ []) (shownAnswer block out))
+  pub shown-list : T (has (0 ∷ 1 ∷ 2 ∷ 3 ∷ 4 ∷ 5 ∷ 7 ∷ 8 ∷ 22 ∷ []) (shownAnswer block out))
   unfolding shownAnswer any
   shown-list = go (eqb (length out) maxRows)
     where
-      go : (b : Bool) → T (has (0 ∷ 1 ∷ 2 ∷ 3 ∷ 4 ∷ 5 ∷ 7 ∷ 8 ∷ []) (cond b (openAnswer block) 1))
+      go : (b : Bool) → T (has (0 ∷ 1 ∷ 2 ∷ 3 ∷ 4 ∷ 5 ∷ 7 ∷ 8 ∷ 22 ∷ []) (cond b (openAnswer block) 1))
       go true = open-list block
       go false = tt
 
@@ -108,7 +108,7 @@ module _ (block : List ℕ) (out : List Float) where
 
       -- all elements
       pub elements-written : (elements : List Float)
-          → elements ≡ shownOf (patchIn (coordinatesOf block) (pointCount block) (tableOf block) (rowCount block))
+          → elements ≡ shownOf (patchIn (coordinatesOf block) (pointCount block) block (rowCount block))
           → Gives answer elements
       unfolding fieldsOf
       elements-written elements own = (opened ∙ ap answerOf (sym is-opening), own ∙ sym (shown-writes (is-opening ∙ opens)))

@@ -9,7 +9,6 @@ ghost use Rattle.tally.specs.Steps.{Measured};
 ghost use Rattle.tally.specs.Tally.{patchIn, worstOfPatch};
 ghost use Rattle.display.specs.Display.{shownAnswer, shownOf, shownElements};
 use answers::Answer;
-use layout::BODY_BYTES;
 use layout::MAX_ROWS;
 use layout::POINTS_AT;
 use page::PageRow;
@@ -54,7 +53,7 @@ pub fn shown(block: &[u8], out: &mut [f64]) -> Answer
     put_elements(
         &block[POINTS_AT..ROWS_AT],
         block[1] as usize,
-        &block[ROWS_AT..BODY_BYTES],
+        block,
         block[2] as usize,
         out,
     );

@@ -9,7 +9,7 @@ use lib.ListN.{length}
 use Rattle.lists.specs.Lists.{every, any, different}
 use Rattle.rows.specs.Rows.{rowsIn}
 use Rattle.answers.specs.declared.Answer.the-variants.{Refused}
-use Rattle.layout.specs.Layout.{blockBytes, pointCount, rowCount, tableOf, fieldsOf}
+use Rattle.layout.specs.Layout.{blockBytes, pointCount, rowCount, fieldsOf}
 use Rattle.answers.specs.Answers.{firstRefusal}
 use Rattle.block.specs.Opening.{openAnswer}
 use Rattle.answers.proofs.Refusals.{goes-on}
@@ -80,7 +80,7 @@ module _ (chains : Bool) (block : List ℕ) (e f : ℕ) (opens : openAnswer bloc
   edge-9-same h k q = wrong-numbers (both-one (pointCount block) e f h k q)
 
   -- 10 to 13, and the ring
-  pub edge-table : (a b : ℕ) → a ≡ min e f → b ≡ max e f → (e ≡ f → ⊥) → Table (tableOf block) (rowCount block) a b
+  pub edge-table : (a b : ℕ) → a ≡ min e f → b ≡ max e f → (e ≡ f → ⊥) → Table block (rowCount block) a b
   edge-table a b p q apart = record {
     room = omega (arith, rows-size block opens, few-rows block opens);
     few = few-rows block opens;
@@ -95,11 +95,11 @@ module _ (chains : Bool) (block : List ℕ) (e f : ℕ) (opens : openAnswer bloc
   ring-left fine = goes-on 9 _ _ (ap (λ count. numbersWrong count (e ∷ f ∷ [])) (points-counted block) ∙ fine)
 
   pub edge-ring : (a b : ℕ) → a ≡ min e f → b ≡ max e f → e < pointCount block → f < pointCount block → (e ≡ f → ⊥) → (found : Found)
-      → found ≡ foundOf chains (edgeIn (rowsIn (tableOf block) (rowCount block)) a b) → found ≡ edgeFound chains block e f
+      → found ≡ foundOf chains (edgeIn (rowsIn block (rowCount block)) a b) → found ≡ edgeFound chains block e f
   unfolding fieldsOf siteOf edgeFound foundOf
   edge-ring a b p q h k apart found g =
       let left = ring-left (numbers-fine (pointCount block) e f h k apart) in
-      let ordered : edgeIn (rowsIn (tableOf block) (rowCount block)) a b ≡ edgeIn (rowsIn (tableOf block) (rowCount block)) e f =
-      rw (p, q) (site-ordered (record { points = []; rows = rowsIn (tableOf block) (rowCount block) }) e f) in
+      let ordered : edgeIn (rowsIn block (rowCount block)) a b ≡ edgeIn (rowsIn block (rowCount block)) e f =
+      rw (p, q) (site-ordered (record { points = []; rows = rowsIn block (rowCount block) }) e f) in
       let own : foundOf chains (siteOf (fieldsOf block) e f) ≡ edgeFound chains block e f = rw left in
       g ∙ (ap (foundOf chains) ordered ∙ (sym (found-rows chains (fieldsOf block) e f) ∙ own))

@@ -12,7 +12,7 @@ use Rattle.lists.specs.Lists.{every}
 use Rattle.lists.proofs.Places.{at-in}
 use Rattle.lists.proofs.Tests.{neither-is}
 use Rattle.answers.specs.declared.Answer.the-variants.{Done, Refused}
-use Rattle.layout.specs.Layout.{pointCount, rowCount, coordinatesOf, tableOf, fieldsOf}
+use Rattle.layout.specs.Layout.{pointCount, rowCount, coordinatesOf, fieldsOf}
 use Rattle.answers.specs.Answers.{firstRefusal}
 use Rattle.block.specs.Opening.{openAnswer}
 use Rattle.answers.proofs.ByNumber.{testOf, passes, both-passed}
@@ -90,11 +90,11 @@ module _ (chains : Bool) (block : List ℕ) (e f : ℕ) (opens : openAnswer bloc
         (omega (arith, points-counted block), omega (arith, points-counted block))
 
     module _ (a b : ℕ) (p : a ≡ min e f) (q : b ≡ max e f) where
-      pub own-site : siteIn (coordinatesOf block) (pointCount block) (tableOf block) (rowCount block) a b ≡ site
+      pub own-site : siteIn (coordinatesOf block) (pointCount block) block (rowCount block) a b ≡ site
       unfolding fieldsOf
       own-site = rw (p, q) (site-ordered (fieldsOf block) e f)
 
-      ready : Fillable (coordinatesOf block) (pointCount block) (tableOf block) (rowCount block) a b (found .closed) (found .ring)
+      ready : Fillable (coordinatesOf block) (pointCount block) block (rowCount block) a b (found .closed) (found .ring)
       ready =
           let measured = opens-measured block opens in
           let (low, high, apart) = ends-fit block e f edge-sound in
@@ -114,7 +114,7 @@ module _ (chains : Bool) (block : List ℕ) (e f : ℕ) (opens : openAnswer bloc
                 (ring-point block e f edge-sound (at-in (site .ring) i 0 k) .below));
           }
 
-      pub ringed : Ringed (coordinatesOf block) (pointCount block) (tableOf block) (rowCount block) a b (found .closed) (found .ring)
+      pub ringed : Ringed (coordinatesOf block) (pointCount block) block (rowCount block) a b (found .closed) (found .ring)
       ringed = record {
         ready = ready;
         measured = opens-measured block opens;

@@ -7,10 +7,8 @@ ghost use Rattle.calls.specs.Removing.{blockTests};
 ghost use Rattle.edge.specs.Steps.{edgeFound, foundNone};
 use answers::Answer;
 use layout::BLOCK_BYTES;
-use layout::BODY_BYTES;
 use ring::Found;
 use ring::Ring;
-use rows::ROWS_AT;
 use rows::Regions;
 
 // Answers 1 to 8 of a call with a block and an output block: both lengths before anything in the block.
@@ -77,7 +75,7 @@ pub fn edge_at(block: &[u8], e: usize, f: usize, chains: bool) -> Found
         return no_ring(Answer::Refused(answers::BAD_NUMBER));
     }
     ring::find(
-        &block[ROWS_AT..BODY_BYTES],
+        block,
         block[2] as usize,
         smaller(e, f),
         larger(e, f),

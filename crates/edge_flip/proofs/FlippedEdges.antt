@@ -18,7 +18,7 @@ use Rattle.rows.specs.declared.Regions.the-variants.{One, Several}
 use Rattle.rows.proofs.RegionsRowByRow.{told-several, told-one}
 use Rattle.answers.specs.declared.Answer.{Answer}
 use Rattle.answers.specs.declared.Answer.the-variants.{Done, Refused}
-use Rattle.layout.specs.Layout.{blockBytes, bodyBytes, maxRows, pointCount, rowCount, coordinatesOf, tableOf, fieldsOf, sealed}
+use Rattle.layout.specs.Layout.{blockBytes, bodyBytes, maxRows, pointCount, rowCount, coordinatesOf, fieldsOf, sealed}
 use Rattle.answers.specs.Answers.{Tests, firstRefusal, answerOf}
 use Rattle.block.specs.Opening.{openAnswer}
 use Rattle.answers.proofs.ByNumber.{unlike, testOf, before, stops, front-passed}
@@ -147,7 +147,7 @@ module _ (block out : List ℕ) (e f : ℕ) where
 
       module _ (three : found .ring .m ≡ minRing) (a b : ℕ) (p : a ≡ min e f) (q : b ≡ max e f) where
         abbrev its : Site
-        its = siteIn (coordinatesOf block) (pointCount block) (tableOf block) (rowCount block) a b
+        its = siteIn (coordinatesOf block) (pointCount block) block (rowCount block) a b
 
         its-site : its ≡ site
         its-site = own-site ringsAlone block e f opens found i h a b p q

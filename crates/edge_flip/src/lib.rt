@@ -43,7 +43,7 @@ pub fn flip_edge(block: &[u8], e: usize, f: usize, out: &mut [u8]) -> Answer
     let count = block[1] as usize;
     let n = block[2] as usize;
     let coordinates = &block[POINTS_AT..ROWS_AT];
-    let table = &block[ROWS_AT..BODY_BYTES];
+    let table = block;
     let a = smaller(e, f);
     let b = larger(e, f);
     let way = best_way(coordinates, count, table, n, a, b, found.closed, ring);

@@ -13,7 +13,7 @@ use Rattle.lists.proofs.Tests.{and-l, and-r}
 use Rattle.rows.specs.Rows.{rowsIn}
 use Rattle.answers.specs.declared.Answer.{Answer}
 use Rattle.answers.specs.declared.Answer.the-variants.{Done, Refused}
-use Rattle.layout.specs.Layout.{blockBytes, pointCount, rowCount, coordinatesOf, tableOf, fieldsOf}
+use Rattle.layout.specs.Layout.{blockBytes, pointCount, rowCount, coordinatesOf, fieldsOf}
 use Rattle.block.specs.Opening.{openAnswer}
 use Rattle.answers.specs.Answers.{answerOf}
 use Rattle.answers.proofs.Refusals.{answer-done, answer-refused}
@@ -74,11 +74,11 @@ module _ (block : List ℕ) where
                 found-ring (foundNone (Refused 9)) (edge-9-second ringsAlone block e f opens (ltb-true e (pointCount block) w) h)
             go false w = found-ring (foundNone (Refused 9)) (edge-9-first ringsAlone block e f opens (ltb-false e (pointCount block) w))
 
-        pub tabled : Table (tableOf block) (rowCount block) e f
+        pub tabled : Table block (rowCount block) e f
         tabled = edge-table ringsAlone block e f opens e f (omega arith) (omega arith) (λ q. omega arith)
 
         pub ring-found : f < pointCount block → (found : Found)
-            → found ≡ foundOf ringsAlone (edgeIn (rowsIn (tableOf block) (rowCount block)) e f) → found .ring ≡ ringAt block e f
+            → found ≡ foundOf ringsAlone (edgeIn (rowsIn block (rowCount block)) e f) → found .ring ≡ ringAt block e f
         ring-found h found g =
             found-ring found
             (edge-ring ringsAlone block e f opens e f (omega arith) (omega arith) (omega arith) h (λ q. omega arith) found g)
@@ -128,7 +128,7 @@ module _ (block : List ℕ) where
       its-closed : siteOf (fieldsOf block) e f .closed ≡ true
       its-closed = alone-closed ringsAlone block e f own-opens (edgeFound ringsAlone block e f) refl done refl
 
-      pub ready : Fillable (coordinatesOf block) (pointCount block) (tableOf block) (rowCount block) e f true ring
+      pub ready : Fillable (coordinatesOf block) (pointCount block) block (rowCount block) e f true ring
       ready =
           let order = in-order in
           let closed = own-closed ringsAlone block e f own-opens (edgeFound ringsAlone block e f) refl done ∙ its-closed in
@@ -138,13 +138,13 @@ module _ (block : List ℕ) where
       abbrev its : Site
       its = siteOf (fieldsOf block) e f
 
-      own : siteIn (coordinatesOf block) (pointCount block) (tableOf block) (rowCount block) e f ≡ siteOf (fieldsOf block) e f
+      own : siteIn (coordinatesOf block) (pointCount block) block (rowCount block) e f ≡ siteOf (fieldsOf block) e f
       own =
           let order = in-order in
           own-site ringsAlone block e f own-opens (edgeFound ringsAlone block e f) refl done e f (omega arith) (omega arith)
 
       module _ (table : Pieces)
-          (keeps : KeepsTable (siteIn (coordinatesOf block) (pointCount block) (tableOf block) (rowCount block) e f) table) where
+          (keeps : KeepsTable (siteIn (coordinatesOf block) (pointCount block) block (rowCount block) e f) table) where
         pub ring-length : (minRing ≤ table .m) × (table .m ≤ maxRing)
         ring-length = (rw (keeps .length) (ready .long), rw (keeps .length) (ready .short))
 

@@ -4,7 +4,6 @@ ghost use mathlib.Core.Path.{_≡_};
 ghost use Rattle.ring.specs.Ring.{ringWith};
 ghost use Rattle.edge_tables.specs.EdgeTables.{ringAt, topApex};
 use answers::Answer;
-use layout::BODY_BYTES;
 use layout::POINTS_AT;
 use ring::Ring;
 use rows::ROWS_AT;
@@ -31,7 +30,7 @@ pub fn ring_at(block: &[u8], e: usize, f: usize) -> Ring
         return no_ring();
     }
     let found = ring::find(
-        &block[ROWS_AT..BODY_BYTES],
+        block,
         block[2] as usize,
         e as u8,
         f as u8,
@@ -51,7 +50,7 @@ pub fn apex_at(block: &[u8], e: usize, f: usize) -> u64
     let pieces = pieces::fill(
         &block[POINTS_AT..ROWS_AT],
         block[1] as usize,
-        &block[ROWS_AT..BODY_BYTES],
+        block,
         block[2] as usize,
         e as u8,
         f as u8,

@@ -12,27 +12,14 @@ use candidates::two_over;
 use cells::CELLS;
 use cells::cell_at;
 use kept_faces::Rim;
-use rows::Row;
 
 // The two rows of a triangle from row `at` on.
 fn write_two(table: &mut [u8], at: usize, rows: Bipyramid, region: u8)
     requires { ⌜ rowsAt + rowSize * (at + 2) ≤ length (now table) ⌝ }
     ensures { λ _. ⌜ now (table .exit) ≡ withRows (now (table .entry)) at (rowsOver rows region) ⌝ }
 {
-    let a_row = Row {
-        p: rows.a,
-        q: rows.x,
-        r: rows.y,
-        s: rows.z,
-        region,
-    };
-    let b_row = Row {
-        p: rows.x,
-        q: rows.y,
-        r: rows.z,
-        s: rows.b,
-        region,
-    };
+    let a_row = rows::plain(rows.a, rows.x, rows.y, rows.z, region);
+    let b_row = rows::plain(rows.x, rows.y, rows.z, rows.b, region);
     rows::put_row(table, at, a_row);
     rows::put_row(table, at + 1, b_row);
 }

@@ -148,13 +148,7 @@ pub fn share(table: &[u8], n: usize, x: u8, y: u8, z: u8) -> Sharing
         n: 0,
         a: 0,
         b: 0,
-        row: Row {
-            p: 0,
-            q: 0,
-            r: 0,
-            s: 0,
-            region: 0,
-        },
+        row: rows::plain(0, 0, 0, 0, 0),
         regions: Regions::One(0),
     };
     for i in 0..n {
@@ -179,37 +173,7 @@ pub fn put_three(rows: &mut [u8], at: usize, found: Sharing, region: u8, u: u8)
     let b = found.b;
     let row = found.row;
     let after = links::link_of(row, a, u);
-    rows::put_row(
-        rows,
-        at,
-        Row {
-            p: a,
-            q: b,
-            r: u,
-            s: after.v,
-            region,
-        },
-    );
-    rows::put_row(
-        rows,
-        at + 1,
-        Row {
-            p: a,
-            q: b,
-            r: after.v,
-            s: after.w,
-            region,
-        },
-    );
-    rows::put_row(
-        rows,
-        at + 2,
-        Row {
-            p: a,
-            q: b,
-            r: after.w,
-            s: u,
-            region,
-        },
-    );
+    rows::put_row(rows, at, rows::plain(a, b, u, after.v, region));
+    rows::put_row(rows, at + 1, rows::plain(a, b, after.v, after.w, region));
+    rows::put_row(rows, at + 2, rows::plain(a, b, after.w, u, region));
 }

@@ -19,7 +19,7 @@ use Rattle.mesh.specs.Mesh.{keepsMeshRule}
 use Rattle.rows.proofs.EvenGroup.{arranged-from}
 use Rattle.rows.proofs.RowsOfTables.{rows-length}
 use Rattle.answers.specs.declared.Answer.the-variants.{Done, Refused}
-use Rattle.layout.specs.Layout.{Patch, maxRows, pointCount, rowCount, tableOf, fieldsOf, bytesOf}
+use Rattle.layout.specs.Layout.{Patch, maxRows, pointCount, rowCount, fieldsOf, bytesOf}
 use Rattle.answers.specs.Answers.{firstRefusal}
 use Rattle.block.specs.Opening.{openAnswer}
 use Rattle.layout.proofs.PatchWritten.{points-counted}
@@ -59,13 +59,13 @@ three-rows count rows x y z rule some-row =
 
 -- no more rows are kept than there are
 pub few-kept : (block : List ℕ) (x y z : ℕ) → openAnswer block ≡ 0
-    → length (staying x y z (rowsIn (tableOf block) (rowCount block))) ≤ maxRows
+    → length (staying x y z (rowsIn block (rowCount block))) ≤ maxRows
 few-kept block x y z opens =
-    let rows = rowsIn (tableOf block) (rowCount block) in
-    omega (arith, those-split (stays x y z) rows, rows-length (tableOf block) (rowCount block), few-rows block opens)
+    let rows = rowsIn block (rowCount block) in
+    omega (arith, those-split (stays x y z) rows, rows-length block (rowCount block), few-rows block opens)
 
 module _ (block out : List ℕ) (x y z : ℕ) (given : RightFace block out x y z) (found : Sharing)
-    (found-is : found ≡ sharingIn (rowsIn (tableOf block) (rowCount block)) (x ∷ y ∷ z ∷ [])) where
+    (found-is : found ≡ sharingIn (rowsIn block (rowCount block)) (x ∷ y ∷ z ∷ [])) where
   abbrev face : List ℕ
   face = x ∷ y ∷ z ∷ []
 
@@ -76,7 +76,7 @@ module _ (block out : List ℕ) (x y z : ℕ) (given : RightFace block out x y z
   pair = pairOf patch face
 
   abbrev rows : List Row
-  rows = rowsIn (tableOf block) (rowCount block)
+  rows = rowsIn block (rowCount block)
 
   answer : flipAnswer block out face ≡ firstRefusal (flip23Tests patch face)
   answer = flip23-left block out x y z (given .opens) (given .output)

@@ -12,10 +12,8 @@ use face::face_wrong;
 use face::least;
 use face::put_three;
 use face::share;
-use layout::BODY_BYTES;
 use layout::MAX_ROWS;
 use layout::TABLE_BYTES;
-use rows::ROWS_AT;
 use rows::Regions;
 
 // The flip of a face with right numbers: writes the block afterwards, or refuses and leaves every output byte.
@@ -25,7 +23,7 @@ fn flip_right(block: &[u8], x: u8, y: u8, z: u8, out: &mut [u8]) -> Answer
     ensures bytes { λ r. ⌜ now (out .exit) ≡ flipBytes (now (block .entry)) (now (out .entry)) (x ∷ y ∷ z ∷ []) ⌝ }
 {
     let n = block[2] as usize;
-    let found = share(&block[ROWS_AT..BODY_BYTES], n, x, y, z);
+    let found = share(block, n, x, y, z);
     if found.n == 0 {
         return Answer::Refused(answers::NOT_HELD);
     }
@@ -40,7 +38,7 @@ fn flip_right(block: &[u8], x: u8, y: u8, z: u8, out: &mut [u8]) -> Answer
         return Answer::Refused(answers::TWO_REGIONS);
     };
     let mut rows = [0u8; TABLE_BYTES];
-    let kept = output::keep_others(&block[ROWS_AT..BODY_BYTES], n, x, y, z, &mut rows);
+    let kept = output::keep_others(block, n, x, y, z, &mut rows);
     if MAX_ROWS < kept + 3 {
         return Answer::Refused(answers::NO_ROOM);
     }

@@ -9,7 +9,6 @@ ghost use Rattle.rows.specs.Steps.{mostRows};
 ghost use Rattle.ring.specs.Ring.{maxRing};
 ghost use Rattle.flatness.specs.Steps.{Crossed, across};
 use ring::Ring;
-use rows::Row;
 
 // The chain is not flat: it is open, and D(a,b,v1,vm) is not 0.
 pub fn not_flat(coordinates: &[u8], count: usize, a: u8, b: u8, closed: bool, ring: Ring) -> bool
@@ -20,13 +19,7 @@ pub fn not_flat(coordinates: &[u8], count: usize, a: u8, b: u8, closed: bool, ri
         return false;
     }
     let last = ring.m as usize - 1;
-    let outer = Row {
-        p: a,
-        q: b,
-        r: ring.v[0],
-        s: ring.v[last],
-        region: 0,
-    };
+    let outer = rows::plain(a, b, ring.v[0], ring.v[last], 0);
     let d = tally::row_volume(coordinates, count, outer);
     if d < 0 {
         return true;

@@ -3,20 +3,21 @@
 use Prim.Native.Nat.{ℕ, _+_, _-_, _*_, _≤_, _<_}
 use mathlib.Core.Bool.{true}
 use mathlib.Core.List.{List, [], _∷_, _++_, flatMap, append-assoc, List·Memᴰ·not-nil}
+use mathlib.Core.Logic.{_⊎_, inl, inr}
 use mathlib.Core.Path.{_≡_, refl, sym, ap, _∙_}
 use native.Mathlib.Omega.{arith}
 use borrow.Author.Tests.{lt-ltb}
-use lib.Dec.{T, eqb→eq, lt→ltb}
+use lib.Dec.{T, eqb, eqb→eq, lt→ltb}
 use lib.ListN.{length, take, drop, replicate, length-append}
 use lib.Seq.{drop-at, take-take}
 use Rattle.lists.specs.Lists.{every}
-use Rattle.lists.proofs.Tests.{and-l, and-r, and-i}
+use Rattle.lists.proofs.Tests.{and-l, and-r, and-i, or-e}
 use Rattle.lists.proofs.Lists.{every-at, every-i, every-both, every-replicate}
 use Rattle.lists.proofs.Places.{in-cases}
 use Rattle.volume.specs.Volume.{pointSize, pointBytes}
 use Rattle.volume.proofs.PointsInBytes.{points-length}
 use Rattle.rows.specs.declared.Row.{Row}
-use Rattle.rows.specs.Labels.{plainVersion, labelByte}
+use Rattle.rows.specs.Labels.{plainVersion, markedVersion, labelByte}
 use Rattle.rows.specs.Rows.{version, rowsAt, rowSize, rowsIn, labels, rowBytes, numbers}
 use Rattle.rows.proofs.LabelsReadBack.{written-read as labels-written}
 use Rattle.rows.proofs.RowsOfTables.{rows-length, rows-room, rows-bytes as rows-bytes-of}
@@ -126,7 +127,11 @@ filled-bytes : (n : ℕ) (bytes : List ℕ) → T (every isByte bytes) → T (ev
 filled-bytes n bytes h = every-both isByte bytes (replicate (n - length bytes) 0) h (every-replicate isByte (n - length bytes) 0 tt)
 
 version-small : (v : ℕ) → T (isVersion v) → v < 256
-version-small v is = omega (arith, eqb→eq v plainVersion is)
+version-small v is = go (or-e (eqb v plainVersion) (eqb v markedVersion) is)
+  where
+    go : T (eqb v plainVersion) ⊎ T (eqb v markedVersion) → v < 256
+    go (inl e) = omega (arith, eqb→eq v plainVersion e)
+    go (inr e) = omega (arith, eqb→eq v markedVersion e)
 
 head-bytes : (v n m : ℕ) → T (isVersion v) → n ≤ maxPoints → m ≤ maxRows → T (every isByte (v ∷ n ∷ m ∷ []))
 unfolding every

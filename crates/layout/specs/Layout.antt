@@ -1,14 +1,14 @@
 -- Requirement §2: the layout, read and written, and the two sums.
 use Prim.Native.Nat.{ℕ, _+_, _-_, _/_, _%_, _^_}
 use mathlib.Core.List.{List, [], _∷_, _++_, flatMap}
-use mathlib.Core.Bool.{Bool, not}
+use mathlib.Core.Bool.{Bool, not, _||_}
 use lib.ListN.{length, getD, take, drop, replicate}
 use lib.Dec.{eqb}
 use Rattle.lists.specs.Lists.{same}
 use Rattle.volume.specs.declared.Point.{Point}
 use Rattle.volume.specs.Volume.{pointsIn, pointBytes}
 use Rattle.rows.specs.declared.Row.{Row}
-use Rattle.rows.specs.Labels.{plainVersion}
+use Rattle.rows.specs.Labels.{plainVersion, markedVersion}
 use Rattle.rows.specs.Rows.{version, rowsAt, rowsIn, rowBytes}
 use Rattle.layout.specs.declared.Sums.{Sums}
 use Rattle.layout.specs.declared.Fields.{Fields}
@@ -23,9 +23,9 @@ blockBytes = 512
 abbrev pub bodyBytes : ℕ
 bodyBytes = 508
 
--- byte 0: version, 1
+-- byte 0: version, 1 or 2
 abbrev pub isVersion : ℕ → Bool
-isVersion version = eqb version plainVersion
+isVersion version = eqb version plainVersion || eqb version markedVersion
 
 -- byte 1: points, 0 to 64
 abbrev pub maxPoints : ℕ

@@ -20,7 +20,7 @@ abbrev pub rowFits : ℕ → Row → Bool
 rowFits version row = every isByte (numbers row) && hasRoomFor version (labels row)
 
 -- A patch within the limits of a version: 0 to 64 points, 0 to 60 rows, x, y, z and four point numbers each 0 to 255; in version 1 regions
--- 0 to 255 and no marks.
+-- 0 to 255 and no marks, in version 2 regions 0 to 15.
 pub record Within (version : ℕ) (patch : Patch) : Type 0 where
   pub version-is : T (isVersion version)
   pub few-points : length (patch .points) ≤ maxPoints

@@ -5,8 +5,10 @@ ghost use mathlib.Core.List.{_++_};
 ghost use mathlib.Core.Path.{_≡_};
 ghost use lib.Dec.{eqb};
 ghost use lib.ListN.{length, getD, take, drop, set};
-ghost use Rattle.layout.specs.Layout.{blockBytes, bodyBytes, sumsOf, sealed, sumWrong, openFields, noFields};
+ghost use Rattle.layout.specs.Layout.{blockBytes, bodyBytes, isVersion, sumsOf, sealed, sumWrong, openFields, noFields};
 
+use rows::MARKED_VERSION;
+use rows::PLAIN_VERSION;
 use rows::ROWS_AT;
 use rows::VERSION_AT;
 
@@ -79,6 +81,13 @@ fn put(out: &mut [u8], at: usize, sum: u16)
 {
     out[at] = (sum % 256) as u8;
     out[at + 1] = (sum / 256) as u8;
+}
+
+// The version is 1 or 2.
+pub fn is_version(version: u8) -> bool
+    ensures { λ r. ⌜ r ≡ isVersion version ⌝ }
+{
+    (version == PLAIN_VERSION) | (version == MARKED_VERSION)
 }
 
 // The last four bytes are not the sums of those before.

@@ -14,7 +14,7 @@ use Rattle.rows.specs.declared.Row.{Row}
 use Rattle.rows.specs.Rows.{rowsIn}
 use Rattle.mesh.specs.Mesh.{numbersFit}
 use Rattle.mesh.proofs.MeshRuleStated.{keeps-fits}
-use Rattle.layout.specs.Layout.{Patch, maxRows, pointCount, rowCount, coordinatesOf, tableOf, fieldsOf}
+use Rattle.layout.specs.Layout.{Patch, maxRows, pointCount, rowCount, coordinatesOf, fieldsOf}
 use Rattle.tally.specs.Steps.{Measured}
 use Rattle.tally.specs.Tally.{patchIn, worstOfPatch}
 use Rattle.ring.specs.declared.Ring.{Ring}
@@ -82,7 +82,7 @@ module _ (block : List ℕ) (e f : ℕ) {closed : Bool} {ring : Ring} {region : 
         own ∙ ap patchAfter own-site
 
     pub replaced : (page : PageRow)
-        → page ≡ pageRow (shown (worstOfPatch (patchIn (coordinatesOf block) (pointCount block) (tableOf block) (rowCount block))))
+        → page ≡ pageRow (shown (worstOfPatch (patchIn (coordinatesOf block) (pointCount block) block (rowCount block))))
         (shown (worstOfPatch (patchIn (coordinatesOf block) (pointCount block) rows n)))
         → Replaces block e f rows (record { n = n; page = page })
     unfolding fieldsOf

@@ -10,7 +10,6 @@ use cells::CELLS;
 use display::page_row;
 use edge::larger;
 use edge::smaller;
-use layout::BODY_BYTES;
 use layout::POINTS_AT;
 use page::PageRow;
 use replacement::carry_out;
@@ -41,7 +40,7 @@ pub fn replace(
     let count = block[1] as usize;
     let n = block[2] as usize;
     let coordinates = &block[POINTS_AT..ROWS_AT];
-    let table = &block[ROWS_AT..BODY_BYTES];
+    let table = block;
     let a = smaller(e, f);
     let b = larger(e, f);
     let end = carry_out(

@@ -4,7 +4,7 @@ use mathlib.Core.List.{List}
 use mathlib.Core.Path.{_≡_, sym, ap, _∙_}
 use Rattle.answers.specs.declared.Answer.{Answer}
 use Rattle.answers.specs.declared.Answer.the-variants.{Refused}
-use Rattle.layout.specs.Layout.{pointCount, rowCount, coordinatesOf, tableOf, fieldsOf}
+use Rattle.layout.specs.Layout.{pointCount, rowCount, coordinatesOf, fieldsOf}
 use Rattle.block.specs.Opening.{openAnswer}
 use Rattle.answers.specs.Answers.{answerOf}
 use Rattle.summary.specs.declared.Summary.{Summary}
@@ -27,7 +27,7 @@ module _ (block : List ℕ) where
       ap Summarises.Refused (n .handed) ∙ sym (ap byAnswer (n .answer))
 
   pub summed-done : (summary : Summary) → openAnswer block ≡ 0
-      → summary ≡ summaryOf (patchIn (coordinatesOf block) (pointCount block) (tableOf block) (rowCount block))
+      → summary ≡ summaryOf (patchIn (coordinatesOf block) (pointCount block) block (rowCount block))
       → Summarises.Summary summary ≡ summaryGives block
   unfolding summaryGives fieldsOf byAnswer
   summed-done summary o e = ap Summarises.Summary e ∙ sym (ap byAnswer o)

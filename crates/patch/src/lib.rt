@@ -9,7 +9,6 @@ pub use calls::Removed;
 pub use calls::Summarised;
 pub use display::shown;
 pub use flip::flip;
-use layout::BODY_BYTES;
 use layout::POINTS_AT;
 use rows::ROWS_AT;
 pub use removal::page;
@@ -28,7 +27,7 @@ pub fn summary(block: &[u8]) -> Summarised
     Summarised::Summary(summary::summary_of(
         &block[POINTS_AT..ROWS_AT],
         count,
-        &block[ROWS_AT..BODY_BYTES],
+        block,
         n,
     ))
 }

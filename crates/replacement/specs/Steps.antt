@@ -8,7 +8,7 @@ use lib.Dec.{T}
 use lib.ListN.{length, replicate}
 use Rattle.quality.specs.declared.Quality.{Quality}
 use Rattle.rows.specs.Regions.{regionOf}
-use Rattle.layout.specs.Layout.{maxRows, pointCount, rowCount, coordinatesOf, tableOf}
+use Rattle.layout.specs.Layout.{maxRows, pointCount, rowCount, coordinatesOf}
 use Rattle.ring.specs.declared.Ring.{Ring}
 use Rattle.ring.specs.Ring.{Site, m}
 use Rattle.triangulation.specs.Triangulation.{span, rowsAfter}
@@ -46,12 +46,12 @@ pub record Carriable (site : Site) (region : ℕ) (apexes rows : List ℕ) : Typ
 
 -- the edge between e and f as a site, its ends in order
 abbrev pub edgeSite : List ℕ → ℕ → ℕ → Site
-edgeSite block e f = siteIn (coordinatesOf block) (pointCount block) (tableOf block) (rowCount block) (min e f) (max e f)
+edgeSite block e f = siteIn (coordinatesOf block) (pointCount block) block (rowCount block) (min e f) (max e f)
 
 -- The edge has its ring or chain, whose region is given, with room and an admissible triangulation, and the apexes stand for the chosen one.
 pub record Replaceable (block : List ℕ) (e f : ℕ) (closed : Bool) (ring : Ring) (region : ℕ) (apexes : List ℕ) : Type 0 where
   pub ends : (e < 256) × (f < 256)
-  pub ringed : Ringed (coordinatesOf block) (pointCount block) (tableOf block) (rowCount block) (min e f) (max e f) closed ring
+  pub ringed : Ringed (coordinatesOf block) (pointCount block) block (rowCount block) (min e f) (max e f) closed ring
   pub way : noWay (edgeSite block e f) ≡ false
   pub own-region : region ≡ regionOf (edgeSite block e f .removed)
   pub room : rowsAfter (edgeSite block e f) ≤ maxRows

@@ -23,7 +23,7 @@ use Rattle.score.specs.Score.{highestScore, scoreFactor, octaveLimit, score, sc
 use Rattle.rows.specs.Rows.{rowsAt, rowIn}
 use Rattle.rows.specs.RowMeasure.{rowQuality}
 use Rattle.rows.proofs.RowsOfTables.{among-rows}
-use Rattle.layout.specs.Layout.{bodyBytes, byte, rowCount, tableOf, fieldsOf}
+use Rattle.layout.specs.Layout.{bodyBytes, byte, rowCount, fieldsOf}
 use Rattle.layout.specs.Within.{isByte}
 use Rattle.layout.proofs.BytesOfSlices.{all-bytes, byte-most, part-bytes}
 use Rattle.layout.proofs.PatchWritten.{rows-counted}
@@ -113,8 +113,8 @@ row-small table bytes i =
 rows-small : (block : List ℕ) → T (every isByte block) → T (every smallRow (fieldsOf block .rows))
 unfolding fieldsOf
 rows-small block bytes = every-i smallRow (fieldsOf block .rows) λ row k.
-    let (i, h, is) = among-rows (tableOf block) (rowCount block) k in
-    rw is (row-small (tableOf block) (part-bytes rowsAt bodyBytes block bytes) i)
+    let (i, h, is) = among-rows block (rowCount block) k in
+    rw is (row-small block (part-bytes rowsAt bodyBytes block bytes) i)
 
 last-short : (output : List ℕ) (n : ℕ) → ((i : ℕ) → Fits w8 (byte output i)) → n ≤ rowCount output
     → length (lastLines n output) ≤ 24 * n

@@ -8,7 +8,7 @@ use lib.ListN.{length}
 use Rattle.rows.specs.Rows.{rowsAt, rowsIn}
 use Rattle.mesh.specs.Mesh.{keepsMeshRule}
 use Rattle.mesh.proofs.MeshRuleStated.{keeps-fits}
-use Rattle.layout.specs.Layout.{blockBytes, bodyBytes, maxPoints, maxRows, pointsAt, pointCount, rowCount, coordinatesOf, tableOf}
+use Rattle.layout.specs.Layout.{blockBytes, bodyBytes, maxPoints, maxRows, pointsAt, pointCount, rowCount, coordinatesOf}
 use Rattle.layout.specs.Layout.{fieldsOf}
 use Rattle.block.specs.Opening.{openAnswer}
 use Rattle.block.specs.Holding.{RightBlock}
@@ -33,17 +33,14 @@ module _ (block : List ℕ) (opens : openAnswer block ≡ 0) where
   coordinates-size : length (coordinatesOf block) ≡ rowsAt - pointsAt
   coordinates-size = part-length pointsAt rowsAt block (omega (arith, block-size))
 
-  pub rows-size : length (tableOf block) ≡ bodyBytes - rowsAt
-  rows-size = part-length rowsAt bodyBytes block (omega (arith, block-size))
-
-  pub rule-kept : T (keepsMeshRule (pointCount block) (rowsIn (tableOf block) (rowCount block)))
+  pub rule-kept : T (keepsMeshRule (pointCount block) (rowsIn block (rowCount block)))
   unfolding fieldsOf
   rule-kept = subst (λ n. T (keepsMeshRule n (fieldsOf block .rows))) (points-counted block) (right .body .rule)
 
-  pub opens-measured : Measured (coordinatesOf block) (pointCount block) (tableOf block) (rowCount block)
+  pub opens-measured : Measured (coordinatesOf block) (pointCount block) block (rowCount block)
   opens-measured = record {
     points-held = omega (arith, coordinates-size, few-points);
-    rows-held = omega (arith, rows-size, few-rows);
+    rows-held = omega (arith, block-size, few-rows);
     rows-most = omega (arith, few-rows);
-    proper = keeps-fits (pointCount block) (rowsIn (tableOf block) (rowCount block)) rule-kept;
+    proper = keeps-fits (pointCount block) (rowsIn block (rowCount block)) rule-kept;
   }

@@ -7,7 +7,7 @@ use borrow.Author.Needs.{needs}
 use lib.ListN.{length}
 use Rattle.rows.specs.Steps.{regionsOf}
 use Rattle.answers.specs.declared.Answer.the-variants.{Done}
-use Rattle.layout.specs.Layout.{blockBytes, pointCount, rowCount, coordinatesOf, tableOf}
+use Rattle.layout.specs.Layout.{blockBytes, pointCount, rowCount, coordinatesOf}
 use Rattle.block.specs.Opening.{openAnswer}
 use Rattle.tally.proofs.OpensMeasured.{block-size}
 use Rattle.ring.specs.declared.Found.{Found}
@@ -119,7 +119,7 @@ returns-2 c =
     let decided = c .before in
     let k = decided .before .before .before .before .before .before .before in
     let block = blockOf k in
-    let at : ℕ → ℕ → Site = λ a b. siteIn (coordinatesOf block) (pointCount block) (tableOf block) (rowCount block) a b in
+    let at : ℕ → ℕ → Site = λ a b. siteIn (coordinatesOf block) (pointCount block) block (rowCount block) a b in
     tried-is block (eOf k) (fOf k) (opens k) (foundAt k) (is-found k) (is-done k) _
     (subst (λ (s : Site). Plans s (decided .decide .result)) (ap₂ at (decided .before .before .smaller .ensures) (decided .before .larger .ensures))
     (decided .decide .ensures))

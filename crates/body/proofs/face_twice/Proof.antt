@@ -1,4 +1,4 @@
--- The rows that are tested are those of the block's table.
+-- The rows that are tested are those of the block.
 use mathlib.Core.Bool.{not}
 use mathlib.Core.Path.{sym, ap, _∙_}
 use borrow.Author.Needs.{needs}
@@ -12,20 +12,11 @@ shared-slice-read-rows c = search needs
 cast-rows : tie.Need-cast-rows
 cast-rows c = search needs
 
-sub-all-apart : tie.Need-sub-all-apart
-sub-all-apart c = search needs
-
-part-all-apart-start : tie.Need-part-all-apart-start
-part-all-apart-start c = search needs
-
-part-all-apart-end : tie.Need-part-all-apart-end
-part-all-apart-end c = search needs
-
 all-apart-requires : tie.Need-all-apart-requires
 all-apart-requires c κs = search needs
 
 returns : tie.Need-returns
-returns c = ap not (c .all-apart .ensures) ∙ sym (faces-tested (c .before .before .before .before .args .block .now))
+returns c = ap not (c .all-apart .ensures) ∙ sym (faces-tested (c .before .before .before .args .block .now))
 
 pub face-twice-spec : {M : Type 1} → statement M
 face-twice-spec =
@@ -33,8 +24,5 @@ face-twice-spec =
     (tie.spec
     shared-slice-read-rows
     cast-rows
-    sub-all-apart
-    part-all-apart-start
-    part-all-apart-end
     all-apart-requires
     returns)

@@ -1,4 +1,4 @@
--- The rows that are tested are those of the block's table.
+-- The rows that are tested are those of the block.
 use mathlib.Core.Bool.{not}
 use mathlib.Core.Path.{sym, ap, _∙_}
 use native.Mathlib.Omega.{arith}
@@ -13,15 +13,6 @@ shared-slice-read-rows c = search needs
 cast-rows : tie.Need-cast-rows
 cast-rows c = search needs
 
-sub-all-fit : tie.Need-sub-all-fit
-sub-all-fit c = search needs
-
-part-all-fit-start : tie.Need-part-all-fit-start
-part-all-fit-start c = search needs
-
-part-all-fit-end : tie.Need-part-all-fit-end
-part-all-fit-end c = search needs
-
 shared-slice-read-all-fit : tie.Need-shared-slice-read-all-fit
 shared-slice-read-all-fit c = search needs
 
@@ -32,7 +23,7 @@ all-fit-requires : tie.Need-all-fit-requires
 all-fit-requires c κs = search needs
 
 returns : tie.Need-returns
-returns c = ap not (c .all-fit .ensures) ∙ sym (numbers-tested (c .before .before .before .before .before .args .block .now))
+returns c = ap not (c .all-fit .ensures) ∙ sym (numbers-tested (c .before .before .before .before .args .block .now))
 
 pub number-wrong-spec : {M : Type 1} → statement M
 number-wrong-spec =
@@ -40,9 +31,6 @@ number-wrong-spec =
     (tie.spec
     shared-slice-read-rows
     cast-rows
-    sub-all-fit
-    part-all-fit-start
-    part-all-fit-end
     shared-slice-read-all-fit
     cast-all-fit
     all-fit-requires

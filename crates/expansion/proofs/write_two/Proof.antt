@@ -12,6 +12,12 @@ use Rattle.rows.proofs.PastedRows.{with-more}
 use Rattle.expansion.proofs.write_two.Statement.{statement}
 use Rattle.expansion.proofs.write_two.Tie as tie
 
+plain-requires : tie.Need-plain-requires
+plain-requires c κs = search needs
+
+plain-requires-2 : tie.Need-plain-requires-2
+plain-requires-2 c κs = search needs
+
 put-row-requires : tie.Need-put-row-requires
 put-row-requires c κs = search needs
 
@@ -38,4 +44,4 @@ returns c =
 
 pub write-two-spec : {M : Type 1} → statement M
 write-two-spec =
-    tie.close (tie.spec put-row-requires add-put-row put-row-requires-2 same-length returns)
+    tie.close (tie.spec plain-requires plain-requires-2 put-row-requires add-put-row put-row-requires-2 same-length returns)
