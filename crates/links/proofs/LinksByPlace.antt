@@ -14,7 +14,7 @@ use Rattle.lists.proofs.Numbers.{numbers-e}
 use Rattle.lists.proofs.Places.{at-in}
 use Rattle.lists.proofs.Images.{map-at}
 use Rattle.rows.specs.declared.Row.{Row}
-use Rattle.rows.specs.Rows.{rowSize, rowIn, rowsIn, holdsEdge}
+use Rattle.rows.specs.Rows.{rowsAt, rowSize, rowIn, rowsIn, holdsEdge}
 use Rattle.links.specs.declared.Links.{Links}
 use Rattle.links.specs.Links.{link}
 use Rattle.links.specs.Links.{linksOf}
@@ -70,7 +70,7 @@ module _ {table : List ℕ} {a b : ℕ} {links : Links} (around : Around table a
   below = omega (arith, numbers-e 0 (around .rows) (among .0) .1)
 
   -- the row stands in the table
-  pub place-inside : rowSize * place + rowSize ≤ length table
+  pub place-inside : rowsAt + rowSize * place + rowSize ≤ length table
   place-inside = omega (arith, below, around .meshed .room)
 
   -- it gives a link
