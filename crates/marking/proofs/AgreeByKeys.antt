@@ -41,11 +41,11 @@ any-those {A} p q (x ∷ xs) = go (q x) (any-those p q xs)
         second true e = e
         second false e = e
 
-small-reversed : (f : Face) → Small f → Small (reversed f)
+pub small-reversed : (f : Face) → Small f → Small (reversed f)
 small-reversed f s = record { small-0 = s .small-0; small-1 = s .small-2; small-2 = s .small-1 }
 
 -- the faces with their marks are the row's faces
-marked-small : (row : Row) → Bytes row → (g : Face × Bool) → List·Memᴰ g (markedFaces row) → Small (g .0)
+pub marked-small : (row : Row) → Bytes row → (g : Face × Bool) → List·Memᴰ g (markedFaces row) → Small (g .0)
 unfolding markedFaces faces
 marked-small row b g m = faces-small row b (g .0) (Memᴰ·map (λ g. g .0) m)
 
@@ -134,7 +134,7 @@ module _ (rows : List Row) where
       absurd (rw (q, yes-is (any (marks (reversed (e .0))) rows) (marks-it (reversed (e .0)) g k (other-way (g .0) (e .0) (is-yes _ x)) p)) at (alone-at h e l))
 
   -- both rows at a face agree where no face that one of them leaves unmarked is marked by the other
-  agree-one-sided : agree rows ≡ every (meetsUnmarked rows) rows
+  pub agree-one-sided : agree rows ≡ every (meetsUnmarked rows) rows
   unfolding agree
   agree-one-sided =
       same-test (every (λ g. every (meet g) all) all) (every (meetsUnmarked rows) rows)
@@ -161,15 +161,17 @@ agree-by-keys rows b =
 
 -- ---- no marks
 
--- a row without marks marks nothing
-unmarked-none : (row : Row) → row .marks ≡ noMarks → (f : Face) → T (not (marks f row))
-unfolding marks markedFaces
-unmarked-none row e f =
-    not-any (λ g. sameFace f (g .0) && g .1) (markedFaces row)
-    (every-i (λ g. not (sameFace f (g .0) && g .1)) (markedFaces row) (λ g m. is-no _ (and-no (sameFace f (g .0)) (g .1) (unmarked g m))))
+-- a row without marks marks no face, whichever is asked for
+pub unmarked-none : (row : Row) → row .marks ≡ noMarks → (p : Face → Bool) → T (not (any (λ g. p (g .0) && g .1) (markedFaces row)))
+unfolding markedFaces
+unmarked-none row e p =
+    not-any (λ g. p (g .0) && g .1) (markedFaces row)
+    (every-i (λ g. not (p (g .0) && g .1)) (markedFaces row) (λ g m. is-no _ (and-no (p (g .0)) (g .1) (unmarked g m))))
   where
     unmarked : (g : Face × Bool) → List·Memᴰ g (markedFaces row) → g .1 ≡ false
-    unmarked = each (λ g. g .1 ≡ false) (markedFaces row) (ap (λ (m : Marks). m .qrs) e, (ap (λ (m : Marks). m .psr) e, (ap (λ (m : Marks). m .pqs) e, (ap (λ (m : Marks). m .prq) e, tt))))
+    unmarked =
+        each (λ g. g .1 ≡ false) (markedFaces row)
+        (ap (λ (m : Marks). m .qrs) e, (ap (λ (m : Marks). m .psr) e, (ap (λ (m : Marks). m .pqs) e, (ap (λ (m : Marks). m .prq) e, tt))))
 
     and-no : (a b : Bool) → b ≡ false → a && b ≡ false
     and-no true b e = e
@@ -177,8 +179,9 @@ unmarked-none row e f =
 
 -- where no row is marked all agree
 pub unmarked-agree : (rows : List Row) → ((row : Row) → List·Memᴰ row rows → row .marks ≡ noMarks) → agree rows ≡ true
+unfolding marks
 unmarked-agree rows none =
     agree-one-sided rows
     ∙ yes-is _ (every-i (meetsUnmarked rows) rows λ row m. every-i (λ g. g .1 || not (any (marks (reversed (g .0))) rows)) (markedFaces row)
       λ g k. or-r (g .1) (not (any (marks (reversed (g .0))) rows)) (not-any (marks (reversed (g .0))) rows
-      (every-i (λ row. not (marks (reversed (g .0)) row)) rows λ row m. unmarked-none row (none row m) (reversed (g .0)))))
+      (every-i (λ row. not (marks (reversed (g .0)) row)) rows λ row m. unmarked-none row (none row m) (sameFace (reversed (g .0))))))

@@ -5,7 +5,7 @@ use mathlib.Core.List.{List, [], _∷_, _++_, append-assoc, append-nil, flatMap}
 use mathlib.Core.Path.{_≡_, refl, sym, ap, _∙_}
 use native.Mathlib.Numerals.{add-one, add-two, add-three, add-four}
 use native.Mathlib.Omega.{arith}
-use lib.ListN.{length, take, drop, set, length-append, take-append-drop, List·getD-append}
+use lib.ListN.{length, take, drop, set, length-append, length-drop, take-append-drop, List·getD-append}
 use lib.Seq.{getD-take, take-at, drop-append-add, drop-drop, length-take-le, sets-eq}
 use Rattle.lists.proofs.Images.{flatMap-append}
 use Rattle.rows.specs.declared.Row.{Row}
@@ -68,6 +68,16 @@ with-version table at rows h =
     let size = length-take-le n table h in
     List·getD-append (front ++ bytes) (drop (n + length bytes) table) 0 0 (omega (arith, length-append front bytes))
     ∙ (List·getD-append front bytes 0 0 (omega arith) ∙ getD-take n table 0 0 (omega arith))
+
+-- the length stays
+pub with-length : (table : List ℕ) (at : ℕ) (rows : List Row) → rowsAt + rowSize * (at + length rows) ≤ length table
+    → length (withRows table at rows) ≡ length table
+with-length table at rows h =
+    let n = rowsAt + rowSize * at in
+    let bytes = flatMap (rowBytes (version table)) rows in
+    let size = rows-size (version table) rows in
+    let front = length-take-le n table (omega arith) in
+    simp (length-append, length-drop) (omega arith)
 
 -- rows behind rows
 pub with-more : (table : List ℕ) (at next : ℕ) (xs ys : List Row) → at + length xs ≡ next → rowsAt + rowSize * at ≤ length table

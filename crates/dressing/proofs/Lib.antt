@@ -1,0 +1,2 @@
+pub mod NewMarks
+pub mod RowsDressed
