@@ -104,10 +104,7 @@ fn a_2_3_flip_appends_three_rows_round_the_apexes() {
         assert_eq!(regions.len(), 1);
         let row_of_a = gone.iter().find(|row| row.numbers.contains(&a)).unwrap();
         let even = |row: &Row| tetrahedra(&patch(&[], &[row.numbers], 0));
-        let arranged = Row {
-            numbers: [a, u, v, w],
-            region: 0,
-        };
+        let arranged = Row::plain([a, u, v, w], 0);
         assert_eq!(even(row_of_a), even(&arranged));
     }
 }

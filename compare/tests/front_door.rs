@@ -24,10 +24,9 @@ fn patch_of(text: &str) -> Patch {
         match (word, numbers.as_slice()) {
             (None, _) => {}
             (Some("point"), [x, y, z]) => patch.points.push([*x, *y, *z]),
-            (Some("row"), [p, q, r, s, region]) => patch.rows.push(Row {
-                numbers: [*p, *q, *r, *s],
-                region: *region,
-            }),
+            (Some("row"), [p, q, r, s, region]) => {
+                patch.rows.push(Row::plain([*p, *q, *r, *s], *region))
+            }
             _ => panic!("{line}"),
         }
     }

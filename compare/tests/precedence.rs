@@ -198,7 +198,7 @@ fn two_regions_come_before_not_admissible_and_none_better() {
     let mut blocked = block_a();
     blocked.points.push([1, 2, 3]);
     let (numbers, region) = ([5, 2, 3, 4], 7);
-    blocked.rows.push(Row { numbers, region });
+    blocked.rows.push(Row::plain(numbers, region));
     for answer_of in [removed, flipped] {
         assert_eq!(answer_of(&blocked), answer::NOT_ADMISSIBLE);
         in_regions(&blocked, answer::TWO_REGIONS, answer_of);

@@ -16,10 +16,7 @@ fn better_is_measured_against_the_removed_rows() {
     patch
         .points
         .extend([[0, 0, 0], [1, 0, 0], [50, 1, 0], [0, 0, 1]]);
-    patch.rows.push(Row {
-        numbers: [5, 6, 7, 8],
-        region: 0,
-    });
+    patch.rows.push(Row::plain([5, 6, 7, 8], 0));
     let removal = removed(&patch);
     assert_eq!(removal.page.before, removal.page.after);
     assert!(removal.page.before.abs() < 0.01);
@@ -122,13 +119,7 @@ fn the_regions_of_kept_rows_do_not_matter() {
             (9, [19, 2, 18, 1]),
             (8, [3, 2, 16, 18]),
         ] {
-            patch.rows.insert(
-                0,
-                Row {
-                    numbers: four,
-                    region,
-                },
-            );
+            patch.rows.insert(0, Row::plain(four, region));
         }
         for (after, expected) in left(&patch, numbers).into_iter().zip(expected) {
             let new = |patch: Patch| patch.rows[patch.rows.len() - rows + 1..].to_vec();
@@ -143,7 +134,7 @@ fn the_side_v1_vm_is_no_diagonal() {
     patch.points.push([0, 5, 20]);
     let (a, v1, vm) = (0, 2, 4);
     for numbers in [[5, a, vm, v1], [1, vm, v1, 5]] {
-        patch.rows.push(Row { numbers, region: 0 });
+        patch.rows.push(Row::plain(numbers, 0));
     }
     assert_eq!(removed(&patch).ring, [2, 3, 4]);
 }
@@ -174,10 +165,10 @@ fn a_face_of_an_end_with_a_diagonal_blocks_it() {
     for end in [0, 1] {
         for numbers in [[6, end, 3, 5], [6, end, 5, 3]] {
             let mut blocked = free.clone();
-            blocked.rows.push(Row { numbers, region: 0 });
+            blocked.rows.push(Row::plain(numbers, 0));
             assert_eq!(written(removed(&blocked)), by_2_4);
             let numbers = [6, end, 2, 4];
-            blocked.rows.push(Row { numbers, region: 0 });
+            blocked.rows.push(Row::plain(numbers, 0));
             assert_eq!(remove_answer(&blocked, 0, 1), answer::NOT_ADMISSIBLE);
         }
     }
