@@ -136,9 +136,13 @@ pub fn reasons(case: &Case) -> Vec<String> {
     reasons
 }
 
-/// What a case of version 2 shows: its answer, the length of a ring or a chain that is removed, and what marks show.
+/// What a case of version 2 shows: its answer, of flips with any numbers up to that with which their block is refused, the length of a ring or a chain that is removed, and what marks show.
 fn in_marked(call: &Call, number: u32, tally: Tally) -> Vec<String> {
-    let mut reasons = vec![format!("version 2, {} {number}", name(call))];
+    let name = match (call, number) {
+        (Call::Flip { .. }, answer::LENGTH..=answer::FACE_TWICE) => "flip",
+        _ => name(call),
+    };
+    let mut reasons = vec![format!("version 2, {name} {number}")];
     if number == answer::DONE {
         for (what, lengths) in [("ring", tally.rings), ("chain", tally.chains)] {
             reasons.extend(

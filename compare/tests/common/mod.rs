@@ -6,7 +6,8 @@ pub mod commands;
 pub mod sizes;
 
 use compare::gen::{cases, Random};
-use compare::model::limits::{BLOCK_BYTES, MARKED, PLAIN, REGION_BITS};
+use compare::model::block::with_sums;
+use compare::model::limits::{BLOCK_BYTES, MARKED, PLAIN, REGION_BITS, ROWS_AT, ROW_BYTES};
 use compare::model::measure::determinant;
 use compare::model::mesh::{faces, mesh_rule, EVEN};
 use compare::model::{open, Call, Patch, Point, Row};
@@ -30,6 +31,22 @@ pub fn block_a() -> Patch {
         &[[0, 1, 2, 3], [0, 1, 3, 4], [0, 1, 4, 2]],
         7,
     )
+}
+
+/// Block A with four of the six faces of its shell marked.
+pub fn block_a_marked() -> Patch {
+    with_marked(&block_a(), &BLOCK_A_SHELL)
+}
+
+/// The faces that are marked in it: three of point 0's, one of point 1's.
+pub const BLOCK_A_SHELL: [[u8; 3]; 4] = [[0, 2, 3], [0, 3, 4], [0, 4, 2], [1, 3, 4]];
+
+/// The same beside a row on the face 0, 2, 3, which has the face marked too.
+pub fn block_a_beside_marked() -> Patch {
+    let mut patch = block_a();
+    patch.points.push([0, 0, 14]);
+    patch.rows.insert(1, Row::plain([5, 0, 2, 3], 3));
+    with_marked(&patch, &BLOCK_A_SHELL)
 }
 
 /// What a removal from block A leaves.
@@ -91,6 +108,19 @@ pub fn shared_in_every_way(patch: Patch) -> impl Iterator<Item = (Patch, bool)> 
             row.region = 5 + 16 * (way >> at & 1) as u8;
         }
         (shared, way == 0 || way == ways - 1)
+    })
+}
+
+/// The patch in version 2 in every way to set the marks of its rows, which mostly disagree.
+pub fn marked_in_every_way(patch: Patch) -> impl Iterator<Item = Vec<u8>> {
+    let fields = with_marked(&patch, &[]).to_fields();
+    let rows = patch.rows.len();
+    (0..1 << (4 * rows)).map(move |ways: u32| {
+        let mut fields = fields;
+        for row in 0..rows {
+            fields[ROWS_AT + ROW_BYTES * row + 4] += ((ways >> (4 * row) & 15) << 4) as u8;
+        }
+        with_sums(&fields).to_vec()
     })
 }
 
@@ -192,6 +222,20 @@ pub fn in_two_regions(patch: &Patch, numbers: &[u8]) -> Vec<Patch> {
         other
     };
     going.map(with_other).collect()
+}
+
+/// The patch in version 2 once for each face of its rows that holds the numbers, with that face marked beside what is.
+pub fn with_one_marked(patch: &Patch, numbers: &[u8]) -> Vec<Patch> {
+    let all = patch.rows.iter().flat_map(|row| faces(row.numbers));
+    let ascending = |mut face: [u8; 3]| {
+        face.sort_unstable();
+        face
+    };
+    let held = all.filter(|face| numbers.iter().all(|number| face.contains(number)));
+    let held: BTreeSet<[u8; 3]> = held.map(ascending).collect();
+    let before: Vec<[u8; 3]> = marked_set(patch).into_iter().collect();
+    let with = |face| with_marked(patch, &[&before[..], &[face]].concat());
+    held.into_iter().map(with).collect()
 }
 
 /// What cases of several regions have to show, by its name in a tally.
