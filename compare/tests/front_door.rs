@@ -146,7 +146,7 @@ fn the_glued_load_surface_stays_where_it_is() {
     let marks = |row: &Row| row.marks.iter().filter(|mark| **mark).count();
     let of_new: Vec<usize> = removal.new_rows.iter().map(marks).collect();
     assert_eq!(of_new, [2, 0, 2, 0]);
-    let [before, after] = [&removal.before, &removal.after].map(|patch| Summary::of(patch));
+    let [before, after] = [&removal.before, &removal.after].map(Summary::of);
     assert_eq!((before.upright, after.upright), (5, 5));
 }
 

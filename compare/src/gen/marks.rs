@@ -115,6 +115,14 @@ pub fn shell_marked(random: &mut Random, block: &[u8], numbers: &[usize]) -> Vec
     with_marks(random, patch, numbers, kind).to_bytes().to_vec()
 }
 
+/// The block in version 2 with some of all its faces marked.
+pub fn freely_marked(random: &mut Random, block: &[u8]) -> Vec<u8> {
+    let patch = open(block).expect("it opens");
+    with_marks(random, patch, &[], Kind::Any)
+        .to_bytes()
+        .to_vec()
+}
+
 /// The block, or what is sealed, and the numbers of an edge or a face.
 fn parts(call: &mut Call) -> (&mut [u8], Vec<usize>) {
     match call {

@@ -22,7 +22,7 @@ mod templates;
 
 use crate::model::Call;
 pub use deep::{deep_calls, deep_sites};
-pub use marks::shell_marked;
+pub use marks::{freely_marked, shell_marked};
 pub use random::Random;
 pub use rings::ring_in_table;
 use std::ops::Range;
