@@ -107,6 +107,9 @@ fn marks_are_kept_passed_on_refused_and_tested_in_their_place() {
     for name in mark_points() {
         shows_often(&name, 1);
     }
+    for call in DONE {
+        shows_often(&format!("version 2, {call}: a marked face"), 1);
+    }
     for m in 3..=10 {
         shows_often(&format!("version 2, ring, m = {m}: 0"), 1);
         shows_often(&format!("version 2, chain, m = {m}: 0"), 1);

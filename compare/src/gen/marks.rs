@@ -88,6 +88,9 @@ pub fn marked(random: &mut Random, case: &Case) -> Option<Case> {
     }
     let mut call = case.call.clone();
     let (bytes, numbers) = parts(&mut call);
+    if bytes.first() != Some(&PLAIN) {
+        return None;
+    }
     let Some(patch) = patch_of(bytes) else {
         spoilt(bytes);
         return Some(Case {
@@ -148,14 +151,12 @@ fn patch_of(bytes: &[u8]) -> Option<Patch> {
     }
 }
 
-/// The version of a block that has some other fault, with sums that are as right as they were.
+/// Makes version 2 of a block that has a fault, with sums that are as right as they were.
 fn spoilt(bytes: &mut [u8]) {
     let right_sums = bytes
         .first_chunk()
         .is_some_and(|fields| with_sums(fields)[..] == *bytes);
-    if let Some(version) = bytes.first_mut().filter(|version| **version == PLAIN) {
-        *version = MARKED;
-    }
+    bytes[VERSION_AT] = MARKED;
     if right_sums {
         let fields = bytes.first_chunk().expect("it has sums");
         let anew = with_sums(fields);

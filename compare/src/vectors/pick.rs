@@ -144,6 +144,9 @@ fn in_marked(call: &Call, number: u32, tally: Tally) -> Vec<String> {
     };
     let mut reasons = vec![format!("version 2, {name} {number}")];
     if number == answer::DONE {
+        let patch = patch_in(call).expect("it opens");
+        let marks = patch.rows.iter().any(|row| row.marks != [false; 4]);
+        reasons.extend(marks.then(|| format!("version 2, {name}: a marked face")));
         for (what, lengths) in [("ring", tally.rings), ("chain", tally.chains)] {
             reasons.extend(
                 lengths
