@@ -37,7 +37,7 @@
  *   6          (p,q,s), opposite r
  *   7          (p,r,q), opposite s
  *
- * So when the numbers of a row are rearranged, each bit goes with the number that its face lies opposite to. A face between two
+ * So when a row is rearranged evenly, each bit goes with the number that its face lies opposite to. A face between two
  * rows is marked in both or in neither; one that a single row has may be marked or not. A call that would take a marked face
  * away is refused. Otherwise the same faces are marked afterwards as before, whatever rows they are in then. Of an edge that is
  * removed, or flipped away, the faces with both its ends go: all that lie between two of the rows round it, and of an open

@@ -50,7 +50,7 @@ mod held {
 
     #[test]
     fn on_generated_cases() {
-        Held::of(cases(1, CASES).map(|case| case.call)).expect(74_000);
+        Held::of(cases(1, CASES).map(|case| case.call)).expect(102_000);
     }
 
     #[test]
