@@ -103,7 +103,8 @@ pub fn mark_of(rows: &[Row], face: Face) -> Option<bool> {
         let mut same = with_marks.filter(|(own, _)| turned(*own) == turned(face));
         same.next().map(|(_, marked)| marked)
     };
-    rows.iter().find_map(in_row)
+    let mut holding = rows.iter().filter(|row| row.holds(&face));
+    holding.find_map(in_row)
 }
 
 /// Does a face stand in two rows, marked in one and not in the other? In a table that keeps the mesh rule the two have it in

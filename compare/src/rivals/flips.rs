@@ -38,6 +38,13 @@ pub enum FlipFault {
     FlipWritesVersion1,
 }
 
+impl FlipFault {
+    /// Whether only blocks of version 2 tell it.
+    pub fn is_of_marks(self) -> bool {
+        self as usize >= FlipFault::FlipComparesRegionsWithMarks as usize
+    }
+}
+
 /// Every such flip.
 pub const FLIP_FAULTS: [FlipFault; 24] = [
     FlipFault::TakesFourForThree,

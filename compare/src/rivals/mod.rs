@@ -85,6 +85,13 @@ pub enum Fault {
     WritesVersion1,
 }
 
+impl Fault {
+    /// Whether only blocks of version 2 tell it.
+    pub fn is_of_marks(self) -> bool {
+        self as usize >= Fault::ReadsMarksByFixedPlace as usize
+    }
+}
+
 /// Every wrong kernel.
 pub const FAULTS: [Fault; 53] = [
     Fault::ComparesRounded,

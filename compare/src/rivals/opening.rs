@@ -1,8 +1,7 @@
 //! Openings that get the version wrong, or the agreement of marks.
 
+use crate::model::answer;
 use crate::model::limits::*;
-use crate::model::mesh::{faces, turned, Face};
-use crate::model::{answer, open};
 
 /// What such an opening gets wrong.
 #[derive(Clone, Copy, Debug, PartialEq, Eq)]
@@ -38,10 +37,9 @@ pub const OPEN_FAULTS: [OpenFault; 10] = [
     OpenFault::ReadsMarksInOtherOrder,
 ];
 
-/// The answer of an opening with a fault, where it comes to bear; the model's elsewhere. Without a fault it is the model's
-/// everywhere.
-pub fn faulty_open(block: &[u8], fault: Option<OpenFault>) -> u32 {
-    let number = open(block).err().unwrap_or(answer::DONE);
+/// The answer of an opening with a fault, where it comes to bear; the model's, which is given, elsewhere. Without a fault it is
+/// the model's everywhere.
+pub fn faulty_open(block: &[u8], number: u32, fault: Option<OpenFault>) -> u32 {
     let looked_at = match fault {
         Some(OpenFault::TestsMarksBeforeFaces) => {
             [answer::DONE, answer::MARKS_DISAGREE, answer::FACE_TWICE]
@@ -63,9 +61,10 @@ pub fn faulty_open(block: &[u8], fault: Option<OpenFault>) -> u32 {
     }
 }
 
-/// A directed face with its row and its mark.
-type Seen = (usize, Face, bool);
+/// The three points of a face in order, its row and its mark.
+type Seen = ([u8; 3], usize, bool);
 
+/// Every face, those of the same points side by side in the order of their rows.
 fn seen(block: &[u8], fault: Option<OpenFault>) -> Vec<Seen> {
     let count = usize::from(block[ROW_COUNT_AT]);
     let rows = block[ROWS_AT..].chunks_exact(ROW_BYTES).take(count);
@@ -75,30 +74,37 @@ fn seen(block: &[u8], fault: Option<OpenFault>) -> Vec<Seen> {
             _ => row[4] >> 4,
         };
         let shift = usize::from(fault == Some(OpenFault::ReadsMarksInOtherOrder));
-        let faces = faces([row[0], row[1], row[2], row[3]]);
-        [0, 1, 2, 3].map(|t| (at, turned(faces[t]), byte >> ((t + shift) % 4) & 1 == 1))
+        [0, 1, 2, 3].map(|t| {
+            let mut face = [1, 2, 3].map(|more| row[(t + more) % 4]);
+            face.sort_unstable();
+            (face, at, byte >> ((t + shift) % 4) & 1 == 1)
+        })
     };
-    rows.enumerate().flat_map(of_row).collect()
+    let mut seen: Vec<Seen> = rows.enumerate().flat_map(of_row).collect();
+    seen.sort_unstable();
+    seen
 }
 
 fn disagree(seen: &[Seen], fault: Option<OpenFault>) -> bool {
-    let alone = Some(OpenFault::RefusesMarksOfOneRow);
-    seen.iter().any(|(at, face, marked)| {
-        let [p, q, r] = *face;
-        let across = turned([p, r, q]);
-        let other = seen.iter().find(|(_, face, _)| *face == across);
-        match other {
-            None => fault == alone && *marked,
-            Some((other_at, _, other_marked)) => {
-                let compared = match fault {
-                    Some(OpenFault::TakesMarksThatDisagree) => false,
-                    Some(OpenFault::HoldsMarksToFirstRow) => *at == 0,
-                    Some(OpenFault::HoldsMarksToNextRow) => at + 1 == *other_at,
-                    Some(OpenFault::HoldsMarksOneWay) => at < other_at && *marked,
-                    _ => true,
-                };
-                compared && marked != other_marked
-            }
-        }
+    let mut of_faces = seen.chunk_by(|one, other| one.0 == other.0);
+    of_faces.any(|face| match face {
+        [(_, _, marked)] => *marked && fault == Some(OpenFault::RefusesMarksOfOneRow),
+        _ => face.windows(2).any(|two| differ(two[0], two[1], fault)),
     })
+}
+
+/// Whether a rival sees that two rows disagree about a face; the first row is the earlier one.
+fn differ(
+    (_, at, marked): Seen,
+    (_, next_at, next_marked): Seen,
+    fault: Option<OpenFault>,
+) -> bool {
+    let compared = match fault {
+        Some(OpenFault::TakesMarksThatDisagree) => false,
+        Some(OpenFault::HoldsMarksToFirstRow) => at == 0,
+        Some(OpenFault::HoldsMarksToNextRow) => at + 1 == next_at,
+        Some(OpenFault::HoldsMarksOneWay) => marked,
+        _ => true,
+    };
+    compared && marked != next_marked
 }

@@ -1,7 +1,7 @@
 //! What a run of cases covered: how often each answer came, each length of ring and chain, each fine point.
 
 use crate::gen::Case;
-use crate::model::limits::{BLOCK_BYTES, LONGEST_RING, MAX_ROWS};
+use crate::model::limits::{BLOCK_BYTES, LONGEST_RING, MARKED, MAX_ROWS};
 use crate::model::mesh::Row;
 use crate::model::removal::worst_removed;
 use crate::model::ring::{site, Site};
@@ -173,8 +173,11 @@ impl Tally {
             self.disagreements
                 .push(format!("the second removal differs on {patch:?}, {ends:?}"));
         }
+        // Those that get something else wrong are told by version 1.
+        let of_marks = patch.version == MARKED;
         for fault in FAULTS {
-            *self.told.entry(format!("{fault:?}")).or_default() += u64::from(differs(fault));
+            let told = fault.is_of_marks() == of_marks && differs(fault);
+            *self.told.entry(format!("{fault:?}")).or_default() += u64::from(told);
         }
     }
 
@@ -187,11 +190,14 @@ impl Tally {
         else {
             return;
         };
+        let of_marks = marks::is_marked(call);
         for fault in FLIP_FAULTS {
-            let mut out = out.clone();
-            let number = faulty_flip(block, numbers, &mut out, fault);
-            let differs = Outcome::Bytes(number, out) != *right;
-            *self.told.entry(format!("{fault:?}")).or_default() += u64::from(differs);
+            let told = fault.is_of_marks() == of_marks && {
+                let mut out = out.clone();
+                let number = faulty_flip(block, numbers, &mut out, fault);
+                Outcome::Bytes(number, out) != *right
+            };
+            *self.told.entry(format!("{fault:?}")).or_default() += u64::from(told);
         }
     }
 
@@ -201,13 +207,13 @@ impl Tally {
         if number == answer::LENGTH || block.len() != BLOCK_BYTES {
             return;
         }
-        let right = faulty_open(block, None);
-        if right != open(block).err().unwrap_or(answer::DONE) {
+        let right = open(block).err().unwrap_or(answer::DONE);
+        if faulty_open(block, right, None) != right {
             self.disagreements
                 .push(format!("the second opening differs on {call:?}"));
         }
         for fault in OPEN_FAULTS {
-            let differs = faulty_open(block, Some(fault)) != right;
+            let differs = faulty_open(block, right, Some(fault)) != right;
             *self.told.entry(format!("{fault:?}")).or_default() += u64::from(differs);
         }
     }
