@@ -4,6 +4,7 @@ mod common;
 
 use common::{mark_points, region_points};
 use compare::gen::cases_at;
+use compare::rivals::{FAULTS, FLIP_FAULTS, OPEN_FAULTS};
 use compare::tally::{Counts, Tally};
 use std::sync::LazyLock;
 use std::thread;
@@ -108,9 +109,20 @@ fn several_faults_show_the_order_of_the_answers() {
 
 #[test]
 fn every_wrong_kernel_is_told_apart() {
-    for (fault, told) in &TALLY.told {
-        assert!(*told >= 60, "{fault}: {told}");
+    let least = |of_marks: bool| match of_marks {
+        true => 60,
+        false => 100,
+    };
+    let removals = FAULTS.map(|fault| (format!("{fault:?}"), least(fault.is_of_marks())));
+    let flips = FLIP_FAULTS.map(|fault| (format!("{fault:?}"), least(fault.is_of_marks())));
+    let openings = OPEN_FAULTS.map(|fault| (format!("{fault:?}"), least(false)));
+    let all = removals.into_iter().chain(flips).chain(openings);
+    for (fault, least) in all {
+        let told = TALLY.told[&fault];
+        assert!(told >= least, "{fault}: {told}");
     }
+    let count = FAULTS.len() + FLIP_FAULTS.len() + OPEN_FAULTS.len();
+    assert_eq!(TALLY.told.len(), count);
 }
 
 #[test]
