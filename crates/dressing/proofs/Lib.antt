@@ -1,2 +1,3 @@
 pub mod NewMarks
 pub mod RowsDressed
+pub mod NewRowsDressed

@@ -15,7 +15,7 @@ use Rattle.block.specs.Opening.{openAnswer}
 use Rattle.answers.proofs.Refusals.{goes-on}
 use Rattle.answers.proofs.ByNumber.{testOf, before, stops}
 use Rattle.layout.proofs.PatchWritten.{points-counted}
-use Rattle.tally.proofs.OpensMeasured.{few-rows, rows-size, rule-kept}
+use Rattle.tally.proofs.OpensMeasured.{block-size, few-rows, rule-kept}
 use Rattle.ring.specs.declared.Found.{Found}
 use Rattle.ring.specs.Ring.{Site, siteOf, numbersWrong, edgeTests, lengthTests}
 use Rattle.links.specs.Steps.{Table}
@@ -82,7 +82,7 @@ module _ (chains : Bool) (block : List ℕ) (e f : ℕ) (opens : openAnswer bloc
   -- 10 to 13, and the ring
   pub edge-table : (a b : ℕ) → a ≡ min e f → b ≡ max e f → (e ≡ f → ⊥) → Table block (rowCount block) a b
   edge-table a b p q apart = record {
-    room = omega (arith, rows-size block opens, few-rows block opens);
+    room = omega (arith, block-size block opens, few-rows block opens);
     few = few-rows block opens;
     count = pointCount block;
     rule = rule-kept block opens;

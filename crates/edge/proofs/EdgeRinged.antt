@@ -17,7 +17,7 @@ use Rattle.answers.specs.Answers.{firstRefusal}
 use Rattle.block.specs.Opening.{openAnswer}
 use Rattle.answers.proofs.ByNumber.{testOf, passes, both-passed}
 use Rattle.layout.proofs.PatchWritten.{points-counted}
-use Rattle.tally.proofs.OpensMeasured.{few-points, few-rows, opens-measured}
+use Rattle.tally.proofs.OpensMeasured.{few-points, few-rows, opens-measured, marks-agree}
 use Rattle.ring.specs.declared.Found.{Found}
 use Rattle.ring.specs.Ring.{Site, siteOf, m, minRing, maxRing, ringsAlone, edgeTests, lengthTests, lengthWrong, ringWith}
 use Rattle.ring.specs.SoundRing.{SoundRing}
@@ -119,4 +119,5 @@ module _ (chains : Bool) (block : List ℕ) (e f : ℕ) (opens : openAnswer bloc
         ready = ready;
         measured = opens-measured block opens;
         sound = subst SoundRing (sym own-site) (sound-site block e f edge-sound);
+        agrees = marks-agree block opens;
       }

@@ -2,8 +2,11 @@
 use Prim.Native.Nat.{ℕ}
 use mathlib.Core.Bool.{Bool, false}
 use mathlib.Core.List.{List, [], _++_}
+use lib.Dec.{T}
 use Rattle.answers.specs.declared.Answer.{Answer}
 use Rattle.rows.specs.Steps.{noRegions}
+use Rattle.rows.specs.Rows.{rowsIn}
+use Rattle.marking.specs.Marking.{agree}
 use Rattle.layout.specs.Layout.{fieldsOf}
 use Rattle.answers.specs.Answers.{firstRefusal}
 use Rattle.tally.specs.Steps.{Measured}
@@ -29,8 +32,9 @@ foundNone answer = record { answer = answer; closed = false; ring = ringWith [];
 unfoldable pub edgeFound : Bool → List ℕ → ℕ → ℕ → Found
 edgeFound chains block e f = foundWith (edgeAnswer chains block e f) (siteOf (fieldsOf block) e f)
 
--- The edge (a,b) and its ring or chain of 3 to 10 points, in a table that keeps the mesh rule: what the steps behind answer 13 ask for.
+-- The edge (a,b) and its ring or chain of 3 to 10 points, in a table that keeps the mesh rule and whose marks agree: what the steps behind answer 13 ask for.
 pub record Ringed (coordinates : List ℕ) (count : ℕ) (table : List ℕ) (n a b : ℕ) (closed : Bool) (ring : Ring) : Type 0 where
   pub ready : Fillable coordinates count table n a b closed ring
   pub measured : Measured coordinates count table n
   pub sound : SoundRing (siteIn coordinates count table n a b)
+  pub agrees : T (agree (rowsIn table n))

@@ -35,13 +35,12 @@ module _ (coordinates : List ℕ) (count : ℕ) (table : List ℕ) (n a b : ℕ)
   size-is : ring .m ≡ m its
   size-is = ap (λ (r : Ring). r .m) (given .ready .found)
 
-  -- the empty table holds the rows that are there now
-  pub keep-room : (rowSize * n ≤ length table) × (rowSize * n ≤ length rows)
-  keep-room =
-      (given .ready .rows, omega (arith, given .ready .few-rows, ap length (carriable .empty) ∙ length-replicate {A = ℕ} tableBytes 0))
+  -- the block holds the rows that are there now
+  pub keep-room : (rowsAt + rowSize * n ≤ length table) × (rowsAt + rowSize * n ≤ length rows)
+  keep-room = (given .ready .rows, omega (arith, given .ready .few-rows, carriable .place))
 
   module _ (kept : ℕ) (kept-is : kept ≡ length (staying a b b (rowsIn table n))) (front : List ℕ)
-      (front-is : front ≡ flatMap rowBytes (staying a b b (rowsIn table n)) ++ drop (rowSize * kept) rows) where
+      (front-is : front ≡ withRows rows 0 (staying a b b (rowsIn table n))) where
     stays : staying a b b (rowsIn table n) ≡ its .kept
     unfolding siteOf
     stays = edge-staying a b (rowsIn table n) ∙ rw (least, most)
@@ -49,11 +48,11 @@ module _ (coordinates : List ℕ) (count : ℕ) (table : List ℕ) (n a b : ℕ)
     kept-own : kept ≡ length (its .kept)
     kept-own = kept-is ∙ ap length stays
 
-    front-own : front ≡ tableWith (its .kept)
-    front-own = rw (front-is, stays, kept-own, carriable .empty) (table-front (its .kept))
+    front-own : front ≡ withRows rows 0 (its .kept)
+    front-own = front-is ∙ ap (withRows rows 0) stays
 
-    front-size : length front ≡ tableBytes
-    front-size = ap length front-own ∙ table-size (its .kept) (omega (arith, carriable .room))
+    front-size : length front ≡ length rows
+    front-size = ap length front-own ∙ with-length rows 0 (its .kept) (omega (arith, carriable .room, carriable .place))
 
     pub expand-ready : (length apexes ≡ cells) × Between apexes 1 (ring .m) × (1 ≤ 1) × (1 < ring .m) × (ring .m ≤ maxRing)
     expand-ready = (
@@ -64,8 +63,8 @@ module _ (coordinates : List ℕ) (count : ℕ) (table : List ℕ) (n a b : ℕ)
       omega (arith, size-is, given .ready .short),
     )
 
-    pub expand-room : rowSize * (kept + 2 * (ring .m - 1 - 1)) ≤ length front
-    expand-room = omega (arith, front-size, kept-own, size-is, given .ready .long, carriable .room)
+    pub expand-room : rowsAt + rowSize * (kept + 2 * (ring .m - 1 - 1)) ≤ length front
+    expand-room = omega (arith, front-size, kept-own, size-is, given .ready .long, carriable .room, carriable .place)
 
     point : (l : ℕ) → 1 ≤ l → l ≤ m its → getD (ring .v) (l - 1) 0 ≡ v its l
     point zero s h = absurd (omega arith)
@@ -79,17 +78,48 @@ module _ (coordinates : List ℕ) (count : ℕ) (table : List ℕ) (n a b : ℕ)
     unfolding siteOf
     site-rows = rw size-is (record { a = sym least; b = sym most; v = point; own-region = carriable .own-region })
 
-    pub carried-out : (whole : List ℕ) (end : ℕ)
-        → ((site : Site) → SiteRows site (record { a = a; b = b; v = ring .v }) region 1 (ring .m)
+    module _ (two : List ℕ) (end : ℕ)
+        (expanded : (site : Site) → SiteRows site (record { a = a; b = b; v = ring .v }) region 1 (ring .m)
         → span (treeIn apexes 1 (ring .m)) ≡ ring .m - 1
-        → (whole ≡ withRows front kept (newRows site 1 (treeIn apexes 1 (ring .m))))
-        × (end ≡ kept + length (newRows site 1 (treeIn apexes 1 (ring .m)))))
-        → (end ≡ length (tableAfter its (chosen its))) × (whole ≡ tableWith (tableAfter its (chosen its)))
-    unfolding tableAfter
-    carried-out whole end f =
-        let tree : treeIn apexes 1 (ring .m) ≡ chosen its = rw size-is (carriable .stand .tree) in
-        let (w, n) = f its site-rows (ap span tree ∙ carriable .stand .spans ∙ sym (ap (λ k. k - 1) size-is)) in
-        let rows = newRows its 1 (chosen its) in (
-          rw tree at n ∙ rw kept-own (sym (length-append (its .kept) rows)),
-          rw (tree, front-own, kept-own) at w ∙ table-append (its .kept) rows,
-        )
+        → (two ≡ withRows front kept (newRows site 1 (treeIn apexes 1 (ring .m))))
+        × (end ≡ kept + length (newRows site 1 (treeIn apexes 1 (ring .m))))) where
+      abbrev new : List Row
+      new = newRows its 1 (chosen its)
+
+      tree : treeIn apexes 1 (ring .m) ≡ chosen its
+      tree = rw size-is (carriable .stand .tree)
+
+      own : (two ≡ withRows front kept new) × (end ≡ kept + length new)
+      own = rw tree at (expanded its site-rows (ap span tree ∙ carriable .stand .spans ∙ sym (ap (λ k. k - 1) size-is)))
+
+      -- the new rows, written
+      two-own : two ≡ withRows rows 0 (its .kept ++ new)
+      two-own =
+          own .0
+          ∙ ap (λ t. withRows t kept new) front-own
+          ∙ with-more rows 0 kept (its .kept) new (omega (arith, kept-own)) (omega (arith, carriable .place))
+
+      few : end ≤ maxRows
+      few = omega (arith, own .1, kept-own, new-length its (chosen its) (carriable .stand .spans), carriable .room)
+
+      pub dress-room : (kept ≤ end) × (rowsAt + rowSize * end ≤ length two)
+      dress-room = (omega (arith, own .1), omega (arith, few, carriable .place, ap length two-own ∙ with-length rows 0 (its .kept ++ new) (omega (arith, own .1, kept-own, length-append (its .kept) new, few, carriable .place))))
+
+      goes : those (holdsFace (a ∷ b ∷ b ∷ [])) (rowsIn table n) ≡ its .removed
+      unfolding siteOf
+      goes = edge-going a b (rowsIn table n) ∙ rw (least, most)
+
+      remains : those (λ row. not (holdsFace (a ∷ b ∷ b ∷ []) row)) (rowsIn table n) ≡ its .kept
+      remains = sym (face-staying a b b (rowsIn table n)) ∙ stays
+
+      -- the rows that stay and the new ones, dressed
+      pub carried-out : T (every isByte table) → (three : List ℕ)
+          → three ≡ withRows two kept (dressed (those (holdsFace (a ∷ b ∷ b ∷ [])) (rowsIn table n))
+          (those (λ row. not (holdsFace (a ∷ b ∷ b ∷ []) row)) (rowsIn table n)) (map (rowIn two) (numbersFrom kept (end - kept))))
+          → (end ≡ length (patchAfter its .rows)) × (three ≡ withRows rows 0 (patchAfter its .rows))
+      unfolding patchAfter
+      carried-out are three is = (
+        own .1 ∙ rw kept-own (sym (length-append (its .kept) (rowsMade its) ∙ ap (λ k. length (its .kept) + k) (length-map new (dressBy (newMark (its .removed) (its .kept)))))),
+        dressed-in-place rows (its .kept) new kept end kept-own (own .1) (omega (arith, few, carriable .place)) (rw (carriable .same-version) (site-room are)) two two-own
+            (its .removed) (its .kept) three (rw (goes, remains) at is),
+      )

@@ -5,10 +5,11 @@ use mathlib.Core.List.{List}
 use mathlib.Core.Path.{_≡_}
 use mathlib.Core.Option.{some}
 use lib.Dec.{T}
-use lib.ListN.{length, replicate}
+use lib.ListN.{length}
 use Rattle.quality.specs.declared.Quality.{Quality}
+use Rattle.rows.specs.Rows.{version}
 use Rattle.rows.specs.Regions.{regionOf}
-use Rattle.layout.specs.Layout.{maxRows, pointCount, rowCount, coordinatesOf}
+use Rattle.layout.specs.Layout.{bodyBytes, maxRows, pointCount, rowCount, coordinatesOf}
 use Rattle.ring.specs.declared.Ring.{Ring}
 use Rattle.ring.specs.Ring.{Site, m}
 use Rattle.triangulation.specs.Triangulation.{span, rowsAfter}
@@ -16,7 +17,6 @@ use Rattle.triangulation.specs.Best.{tableBest, chosen, sameBest}
 use Rattle.triangulation.specs.Steps.{siteIn}
 use Rattle.cells.specs.Steps.{bestOf, cells}
 use Rattle.expansion.specs.Steps.{Between, treeIn}
-use Rattle.output.specs.Steps.{tableBytes}
 use Rattle.calls.specs.Removing.{noWay}
 use Rattle.edge.specs.Steps.{Ringed}
 use Rattle.replacement.specs.declared.Way.{Way}
@@ -33,14 +33,15 @@ pub record BestWay (site : Site) (way : Way) : Type 0 where
   pub fraction : (q : Quality) → bestOf (way .best) ≡ some q → 0 < q .den
   pub apexes : (q : Quality) → bestOf (way .best) ≡ some q → StandFor site (way .apexes)
 
--- There is room for the chosen triangulation, the region is that of the rows that go, the apexes stand for it, and the table it is carried
--- out in is empty.
-pub record Carriable (site : Site) (region : ℕ) (apexes rows : List ℕ) : Type 0 where
+-- There is room for the chosen triangulation, the region is that of the rows that go, the apexes stand for it, and the block it is carried
+-- out in has the version of the table.
+pub record Carriable (site : Site) (region : ℕ) (apexes table rows : List ℕ) : Type 0 where
   pub room : rowsAfter site ≤ maxRows
   pub own-region : region ≡ regionOf (site .removed)
   pub whole : length apexes ≡ cells
   pub stand : StandFor site apexes
-  pub empty : rows ≡ replicate tableBytes 0
+  pub place : bodyBytes ≤ length rows
+  pub same-version : version rows ≡ version table
 
 -- ---- an edge of a block
 

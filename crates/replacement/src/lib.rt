@@ -1,10 +1,9 @@
 // The best triangulation of a ring or a chain: its worst and its apexes; and carried out, in the place of the rows afterwards.
 ghost use mathlib.Core.Path.{_≡_};
 ghost use lib.ListN.{length};
-ghost use Rattle.triangulation.specs.Triangulation.{tableAfter};
-ghost use Rattle.triangulation.specs.Best.{chosen};
+ghost use Rattle.rows.specs.Rows.{withRows};
 ghost use Rattle.triangulation.specs.Steps.{siteIn};
-ghost use Rattle.output.specs.Steps.{tableWith};
+ghost use Rattle.calls.specs.Removing.{patchAfter};
 ghost use Rattle.edge.specs.Steps.{Ringed};
 ghost use Rattle.replacement.specs.Steps.{BestWay, Carriable};
 use cells::Best;
@@ -39,8 +38,9 @@ pub fn best_way(
     Way { best, apexes }
 }
 
-// The chosen triangulation, carried out in an empty table: the kept rows, then the new ones, with the region of those that go; their number
-// is returned. `coordinates`, `count` and `closed` are for the contract alone: they say which ring or chain it is.
+// The chosen triangulation, carried out in a block that is begun: the kept rows, then the new ones, with the region of those that go and the
+// marks of the faces that stay; their number is returned. `coordinates`, `count` and `closed` are for the contract alone: they say which ring
+// or chain it is.
 pub fn carry_out(
     coordinates: &[u8],
     count: usize,
@@ -55,14 +55,15 @@ pub fn carry_out(
     rows: &mut [u8],
 ) -> usize
     requires { ⌜ Ringed (now coordinates) count (now table) n a b closed ring ⌝ }
-    requires { ⌜ Carriable (siteIn (now coordinates) count (now table) n a b) region (now apexes) (now rows) ⌝ }
-    ensures { λ r. ⌜ (r ≡ length (tableAfter (siteIn (now (coordinates .entry)) count (now (table .entry)) n a b)
-        (chosen (siteIn (now (coordinates .entry)) count (now (table .entry)) n a b))))
-        × (now (rows .exit) ≡ tableWith (tableAfter (siteIn (now (coordinates .entry)) count (now (table .entry)) n a b)
-        (chosen (siteIn (now (coordinates .entry)) count (now (table .entry)) n a b)))) ⌝ }
+    requires { ⌜ Carriable (siteIn (now coordinates) count (now table) n a b) region (now apexes) (now table) (now rows) ⌝ }
+    ensures { λ r. ⌜ (r ≡ length (patchAfter (siteIn (now (coordinates .entry)) count (now (table .entry)) n a b) .rows))
+        × (now (rows .exit) ≡ withRows (now (rows .entry)) 0
+        (patchAfter (siteIn (now (coordinates .entry)) count (now (table .entry)) n a b) .rows)) ⌝ }
 {
     let kept = output::keep_others(table, n, a, b, b, rows);
     let v = ring.v;
     let m = ring.m as usize;
-    expansion::expand(rows, kept, apexes, Rim { a, b, v }, region, 1, m)
+    let end = expansion::expand(rows, kept, apexes, Rim { a, b, v }, region, 1, m);
+    dressing::dress(table, n, a, b, b, rows, kept, end);
+    end
 }

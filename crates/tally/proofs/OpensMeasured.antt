@@ -8,6 +8,7 @@ use lib.ListN.{length}
 use Rattle.rows.specs.Rows.{rowsAt, rowsIn}
 use Rattle.mesh.specs.Mesh.{keepsMeshRule}
 use Rattle.mesh.proofs.MeshRuleStated.{keeps-fits}
+use Rattle.marking.specs.Marking.{agree}
 use Rattle.layout.specs.Layout.{blockBytes, bodyBytes, maxPoints, maxRows, pointsAt, pointCount, rowCount, coordinatesOf}
 use Rattle.layout.specs.Layout.{fieldsOf}
 use Rattle.block.specs.Opening.{openAnswer}
@@ -36,6 +37,10 @@ module _ (block : List ℕ) (opens : openAnswer block ≡ 0) where
   pub rule-kept : T (keepsMeshRule (pointCount block) (rowsIn block (rowCount block)))
   unfolding fieldsOf
   rule-kept = subst (λ n. T (keepsMeshRule n (fieldsOf block .rows))) (points-counted block) (right .body .rule)
+
+  pub marks-agree : T (agree (rowsIn block (rowCount block)))
+  unfolding fieldsOf
+  marks-agree = right .body .agrees
 
   pub opens-measured : Measured (coordinatesOf block) (pointCount block) block (rowCount block)
   opens-measured = record {

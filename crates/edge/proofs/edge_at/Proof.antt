@@ -54,24 +54,15 @@ returns-3 c =
     ∙ edge-9-same (args .chains) (args .block .now) (args .e) (args .f) (start .pre) (c .before .before .before .if1 .left)
     (c .before .before .if2 .left) (c .before .if3 .taken)
 
-sub-find : tie.Need-sub-find
-sub-find c = search needs
-
-part-find-start : tie.Need-part-find-start
-part-find-start c = search needs
-
-part-find-end : tie.Need-part-find-end
-part-find-end c = omega (arith, size (c .before .before .before))
-
 shared-slice-read-find : tie.Need-shared-slice-read-find
-shared-slice-read-find c = omega (arith, size (c .before .before .before .before .before))
+shared-slice-read-find c = omega (arith, size (c .before .before .before .before))
 
 cast-find : tie.Need-cast-find
 cast-find c = omega (arith, c .shared-slice-known3 .given 2)
 
 smaller-requires : tie.Need-smaller-requires
 smaller-requires c κs =
-    let l = c .before .before in
+    let l = c .before in
     let k = l .before .before .before in (
       omega (arith, l .before .before .if1 .left, k .shared-slice-known2 .given 1),
       omega (arith, l .before .if2 .left, k .shared-slice-known2 .given 1),
@@ -79,7 +70,7 @@ smaller-requires c κs =
 
 larger-requires : tie.Need-larger-requires
 larger-requires c κs =
-    let l = c .before .before .before in
+    let l = c .before .before in
     let k = l .before .before .before in (
       omega (arith, l .before .before .if1 .left, k .shared-slice-known2 .given 1),
       omega (arith, l .before .if2 .left, k .shared-slice-known2 .given 1),
@@ -87,7 +78,7 @@ larger-requires c κs =
 
 find-requires : tie.Need-find-requires
 find-requires c κs =
-    let l = c .before .before .before .before in
+    let l = c .before .before .before in
     let start = l .before .before .before .before .before in
     let args = start .args in
     edge-table (args .chains) (args .block .now) (args .e) (args .f) (start .pre) _ _ (c .before .smaller .ensures) (c .larger .ensures)
@@ -96,7 +87,7 @@ find-requires c κs =
 returns-4 : tie.Need-returns-4
 returns-4 c =
     let g = c .before in
-    let l = g .before .before .before .before in
+    let l = g .before .before .before in
     let start = l .before .before .before .before .before in
     let args = start .args in
     edge-ring (args .chains) (args .block .now) (args .e) (args .f) (start .pre) _ _ (g .before .smaller .ensures) (g .larger .ensures)
@@ -114,9 +105,6 @@ edge-at-spec =
     returns-2
     no-ring-requires-3
     returns-3
-    sub-find
-    part-find-start
-    part-find-end
     shared-slice-read-find
     cast-find
     smaller-requires
