@@ -1,0 +1,2 @@
+pub mod MarksOfRows
+pub mod AgreementTested
