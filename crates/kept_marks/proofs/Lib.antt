@@ -1,2 +1,3 @@
 pub mod MarksOfRows
 pub mod AgreementTested
+pub mod DressedRows
