@@ -1,3 +1,5 @@
 pub mod MarksOfRows
 pub mod AgreementTested
 pub mod DressedRows
+pub mod PartedTables
+pub mod MarksReplaced
