@@ -3,3 +3,5 @@ pub mod AgreementTested
 pub mod DressedRows
 pub mod PartedTables
 pub mod MarksReplaced
+pub mod NumbersOfFaces
+pub mod LinksAndSides

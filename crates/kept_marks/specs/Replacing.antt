@@ -1,10 +1,10 @@
 -- Requirement §3, marked faces: what is asked of a replacement of rows, and what it keeps of the marks.
-use Prim.Native.Nat.{_+_, _≤_}
+use Prim.Native.Nat.{ℕ, _+_, _≤_}
 use mathlib.Core.Bool.{Bool}
-use mathlib.Core.List.{List, List·Memᴰ}
+use mathlib.Core.List.{List, [], _∷_, List·Memᴰ}
 use mathlib.Core.Path.{_≡_}
 use lib.Dec.{T}
-use Rattle.lists.specs.Lists.{any, count, different}
+use Rattle.lists.specs.Lists.{every, any, count, has, different}
 use Rattle.rows.specs.declared.Row.{Row}
 use Rattle.rows.specs.Rows.{numbers}
 use Rattle.mesh.specs.Mesh.{Face, uses, usesEitherWay, reversed}
@@ -28,6 +28,10 @@ Agree rows = (t u : Row) → List·Memᴰ t rows → List·Memᴰ u rows → (f 
 -- each row marks, of the faces that it uses, just those that the marking marks
 abbrev pub MarkedBy : (Face → Bool) → List Row → Type 0
 MarkedBy marked rows = (f : Face) (t : Row) → List·Memᴰ t rows → T (uses f t) → marks f t ≡ marked f
+
+-- the face has all these numbers
+abbrev pub hasAll : List ℕ → Face → Bool
+hasAll numbers f = every (has (f .0 ∷ f .1 ∷ f .2 ∷ [])) numbers
 
 -- ---- some rows of a table are replaced
 
