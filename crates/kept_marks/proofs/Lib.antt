@@ -5,3 +5,4 @@ pub mod PartedTables
 pub mod MarksReplaced
 pub mod NumbersOfFaces
 pub mod LinksAndSides
+pub mod RingMarks

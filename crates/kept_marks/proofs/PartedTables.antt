@@ -5,17 +5,20 @@ use mathlib.Core.List.{List, [], _∷_, List·Memᴰ, List·Memᴰ·not-nil, Mem
 use mathlib.Core.Logic.{_⊎_, inl, inr}
 use mathlib.Core.Path.{_≡_, sym, _∙_}
 use native.Mathlib.Omega.{arith}
-use lib.Dec.{T, eqb-refl}
-use Rattle.lists.specs.Lists.{any, those, count}
-use Rattle.lists.proofs.Tests.{and-i, or-l, or-r, or-e, same-test}
+use lib.Dec.{T, ltb, eqb-refl}
+use Rattle.lists.specs.Lists.{every, any, those, count, different}
+use Rattle.lists.proofs.Tests.{and-r, and-i, or-l, or-r, or-e, same-test}
 use Rattle.lists.proofs.Places.{in-cases}
-use Rattle.lists.proofs.Lists.{any-i, any-e}
+use Rattle.lists.proofs.Lists.{every-at, any-i, any-e}
 use Rattle.lists.proofs.Counts.{ind-yes, count-cons, count-split, count-some, count-member, some-counted}
 use Rattle.rows.specs.declared.Row.{Row}
+use Rattle.rows.specs.Rows.{numbers}
 use Rattle.rows.specs.Tetrahedra.{sameRow}
 use Rattle.rows.proofs.LabelsReadBack.{same-marks-refl}
 use Rattle.rows.proofs.EvenMoves.{same-row}
-use Rattle.kept_marks.specs.Replacing.{Parted}
+use Rattle.mesh.specs.Mesh.{numbersFit, keepsMeshRule}
+use Rattle.mesh.proofs.MeshRuleStated.{keeps-fits}
+use Rattle.kept_marks.specs.Replacing.{AllDifferent, Parted}
 
 -- where one at most passes, two that pass are one
 pub one-passes : {A : Type 0} (p : A → Bool) (xs : List A) → count p xs ≤ 1
@@ -32,6 +35,12 @@ one-passes {A} p (z ∷ zs) l {x} {y} m n h k =
 -- those that go and those that do not are the two parts
 pub those-parted : (goes : Row → Bool) (rows : List Row) → Parted rows (those goes rows) (those (λ t. not (goes t)) rows)
 those-parted goes rows p = sym (count-split p goes rows)
+
+-- a table that keeps the mesh rule has rows with different numbers
+pub keeps-different : (points : ℕ) (rows : List Row) → T (keepsMeshRule points rows) → AllDifferent rows
+unfolding numbersFit
+keeps-different points rows h t m =
+    and-r (every (λ n. ltb n points) (numbers t)) (different (numbers t)) (every-at (numbersFit points) rows (keeps-fits points rows h) m)
 
 same-self : (t : Row) → T (sameRow t t)
 same-self t = search (and-i, eqb-refl, same-marks-refl) depth 12
