@@ -9,7 +9,7 @@ use Rattle.lists.proofs.Tests.{same-test}
 use Rattle.lists.proofs.Lists.{every-at, every-i}
 use Rattle.lists.proofs.Images.{flatMap-i, flatMap-e}
 use Rattle.rows.specs.declared.Row.{Row}
-use Rattle.mesh.specs.Mesh.{Face, sameFace, uses, reversed}
+use Rattle.mesh.specs.Mesh.{Face, sameFace, reversed}
 use Rattle.mesh.proofs.TurnedFaces.{uses-turned, Turned, stay, same-turned, turned-same, turned-sym, turned-trans, turned-reversed}
 use Rattle.marking.specs.Marking.{markedFaces, marks, agree}
 use Rattle.kept_marks.specs.Replacing.{AllDifferent, Agree}

@@ -1,9 +1,9 @@
 -- Dressed rows. A marking is a test of faces that turning a face does not change; a row dressed by it uses the same faces and marks
 -- those of them that the marking marks. Its numbers, region and measure, and with them the mesh rule and the totals, do not change.
 use Prim.Native.Nat.{ℕ, _+_}
-use mathlib.Core.Bool.{Bool, true, false, _&&_, _||_}
+use mathlib.Core.Bool.{Bool, true, false, _&&_}
 use mathlib.Core.List.{List, [], _∷_, _++_, map, List·Memᴰ·head, List·Memᴰ·tail}
-use mathlib.Core.Path.{_≡_, refl, sym, ap, _∙_, subst}
+use mathlib.Core.Path.{_≡_, refl, sym, ap, _∙_}
 use lib.Dec.{T}
 use lib.IntN.{_+ℤ_}
 use Rattle.lists.specs.Lists.{every, count, those}
@@ -13,13 +13,13 @@ use Rattle.lists.proofs.Images.{every-map}
 use Rattle.lists.proofs.Counts.{ind, count-cons, count-append}
 use Rattle.volume.specs.declared.Point.{Point}
 use Rattle.rows.specs.declared.Row.{Row}
-use Rattle.rows.specs.Rows.{numbers}
+use Rattle.rows.specs.Rows.{numbers, holds}
 use Rattle.rows.specs.RowMeasure.{rowD, rowQuality, totalD}
 use Rattle.rows.specs.Tetrahedra.{evenly, rearranged}
 use Rattle.rows.proofs.EvenMoves.{spin, cross, moved, even-i}
 use Rattle.rows.proofs.EvenGroup.{even-refl, even-trans}
 use Rattle.rows.proofs.EvenMeasure.{total-append}
-use Rattle.mesh.specs.Mesh.{Face, faces, uses, numbersFit, facesApart, keepsMeshRule}
+use Rattle.mesh.specs.Mesh.{Face, faces, uses, numbersFit, keepsMeshRule}
 use Rattle.mesh.proofs.TurnedFaces.{Turned, on, back, FaceOf, no-p, no-q, no-r, no-s, uses-face, face-uses}
 use Rattle.mesh.proofs.FacesCounted.{apart-same}
 use Rattle.marking.specs.Marking.{marks, dressBy}
@@ -32,10 +32,15 @@ abbrev pub Turns : (Face → Bool) → Type 0
 Turns marked = (f g : Face) → Turned f g → marked f ≡ marked g
 
 module _ (marked : Face → Bool) where
-  -- a dressed row has the numbers and the region of the row, and so it holds the same points
+  -- a dressed row has the numbers and the region of the row, and it holds the same points
+
   pub dress-numbers : (t : Row) → numbers (dressBy marked t) ≡ numbers t
   unfolding dressBy
   dress-numbers t = refl
+
+  pub dress-holds : (t : Row) (n : ℕ) → holds (dressBy marked t) n ≡ holds t n
+  unfolding dressBy
+  dress-holds t n = refl
 
   pub dress-region : (t : Row) → dressBy marked t .region ≡ t .region
   unfolding dressBy

@@ -6,3 +6,4 @@ pub mod MarksReplaced
 pub mod NumbersOfFaces
 pub mod LinksAndSides
 pub mod RingMarks
+pub mod FlipMarks

@@ -1,7 +1,7 @@
 -- A row round an edge, (a,b,l,n), against the two rows of a triangle, (a,x,y,z) and (x,y,z,b). No face of the one is a face of the others
 -- reversed, unless the link l n runs against a side of the triangle; where it runs along one, its outer faces are theirs.
 use Prim.Native.Nat.{ℕ}
-use mathlib.Core.Path.{_≡_, refl, sym, _∙_}
+use mathlib.Core.Path.{_≡_, refl, sym}
 use lib.Dec.{T}
 use Rattle.rows.specs.declared.Row.{Row}
 use Rattle.rows.specs.Labels.{noMarks}

@@ -8,14 +8,13 @@ use native.Mathlib.Omega.{arith}
 use lib.Dec.{T, ltb, lt→ltb, eqb, eqb→eq}
 use lib.ListN.{getD}
 use Rattle.lists.specs.Lists.{every, sum, different}
-use Rattle.lists.proofs.Tests.{and-l, and-r, and-i, or-e, same-test}
+use Rattle.lists.proofs.Tests.{and-l, and-r, and-i, same-test}
 use Rattle.lists.proofs.Lists.{any-i, any-e, each, every-at, every-cons}
 use Rattle.rows.specs.declared.Row.{Row}
 use Rattle.rows.specs.Rows.{numbers}
 use Rattle.rows.specs.Tetrahedra.{rearranged}
 use Rattle.rows.proofs.EvenMoves.{spin, cross, even-test}
-use Rattle.rows.proofs.EvenGroup.{inOrder}
-use Rattle.mesh.specs.Mesh.{Face, faces, sameFace, uses, numbersFit, Proper}
+use Rattle.mesh.specs.Mesh.{Face, sameFace, uses, numbersFit, Proper}
 use Rattle.mesh.proofs.TurnedFaces.{Turned, stay, on, back, same-turned, turned-same, turned-sym, turned-trans}
 use Rattle.mesh.proofs.TurnedFaces.{FaceOf, no-p, no-q, no-r, no-s, uses-face, face-uses}
 use Rattle.mesh.proofs.MeshRuleStated.{fit-proper}

@@ -1,13 +1,13 @@
 -- What a replacement does to the marks. The one idea: where both rows at a face agree and no face is used twice, each row that uses a face
 -- marks it exactly when the table does. Kept rows do so because they stood there, new rows because the words of the mark say it.
-use mathlib.Core.Bool.{Bool, true, false, cond, _&&_, _||_}
-use mathlib.Core.List.{List, _++_, map, List·Memᴰ, List·Memᴰ·append-cases, Memᴰ·append-left, Memᴰ·append-right, Memᴰ·of-map}
+use mathlib.Core.Bool.{Bool, true, false, cond, _||_}
+use mathlib.Core.List.{List, _++_, List·Memᴰ, List·Memᴰ·append-cases, Memᴰ·append-left, Memᴰ·append-right, Memᴰ·of-map}
 use mathlib.Core.Logic.{_⊎_, inl, inr}
 use mathlib.Core.Path.{_≡_, refl, sym, ap, _∙_, subst}
 use native.Mathlib.Omega.{arith}
 use lib.Dec.{T}
 use Rattle.lists.specs.Lists.{any, different}
-use Rattle.lists.proofs.Tests.{and-l, and-r, and-i, or-l, or-r, or-e, same-test}
+use Rattle.lists.proofs.Tests.{or-l, or-r, or-e, same-test}
 use Rattle.lists.proofs.Lists.{any-i, any-e, any-append, any-same}
 use Rattle.lists.proofs.Images.{any-map}
 use Rattle.lists.proofs.Counts.{count-append, count-some}
@@ -15,7 +15,7 @@ use Rattle.rows.specs.declared.Row.{Row}
 use Rattle.rows.specs.Rows.{numbers}
 use Rattle.mesh.specs.Mesh.{Face, faces, uses, usesEitherWay, reversed}
 use Rattle.mesh.proofs.TurnedFaces.{turned-reversed, uses-turned}
-use Rattle.marking.specs.Marking.{marks, markedIn, agree, dressBy, newMark, dressed}
+use Rattle.marking.specs.Marking.{marks, markedIn, dressBy, newMark, dressed}
 use Rattle.kept_marks.specs.Replacing.{UsedOnce, AllDifferent, Agree, MarkedBy, Parted, Apart, NoMarkGoes, MarksKept}
 use Rattle.kept_marks.proofs.MarksOfRows.{marks-uses, marks-turned}
 use Rattle.kept_marks.proofs.AgreementTested.{agree-tested}

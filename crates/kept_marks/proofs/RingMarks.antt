@@ -2,28 +2,28 @@
 -- link runs against a side of a triangle, because i < k < j; and every link runs along one, the closing link along that of v1 and vm.
 -- So the faces that go are exactly those with both ends.
 use Prim.Native.Nat.{ℕ, suc, _+_, _-_, _<_, _≤_}
-use mathlib.Core.Bool.{Bool, true, false, cond, not, _&&_, _||_}
+use mathlib.Core.Bool.{Bool, true, false, cond, not, _||_}
 use mathlib.Core.List.{List, [], _∷_, _++_, List·Memᴰ, List·Memᴰ·head, List·Memᴰ·tail, List·Memᴰ·not-nil, Memᴰ·map}
-use mathlib.Core.List.{List·Memᴰ·append-cases, Memᴰ·append-left, Memᴰ·append-right}
+use mathlib.Core.List.{List·Memᴰ·append-cases, Memᴰ·append-right}
 use mathlib.Core.Logic.{_⊎_, inl, inr}
-use mathlib.Core.Path.{_≡_, refl, sym, ap, _∙_, subst}
+use mathlib.Core.Path.{_≡_, refl, sym, ap, subst}
 use native.Mathlib.Decide.{decLt}
 use native.Mathlib.Omega.{arith}
 use borrow.Author.Tests.{eq-eqb, ne-eqb}
 use lib.Dec.{T, T-not}
 use lib.ListN.{length, getD}
 use Rattle.lists.specs.Lists.{any, those, count}
-use Rattle.lists.proofs.Tests.{and-l, and-r, and-i, or-l, or-e, is-no}
+use Rattle.lists.proofs.Tests.{and-l, and-r, and-i, or-l, or-e}
 use Rattle.lists.proofs.Lists.{any-i, any-e, those-e}
 use Rattle.lists.proofs.Images.{flatMap-i, flatMap-e}
 use Rattle.lists.proofs.Places.{in-cases}
-use Rattle.lists.proofs.Counts.{some-counted, count-split}
+use Rattle.lists.proofs.Counts.{some-counted}
 use Rattle.rows.specs.declared.Row.{Row}
 use Rattle.rows.specs.Rows.{holds, holdsEdge}
 use Rattle.rows.specs.Tetrahedra.{arrangedFrom}
 use Rattle.rows.proofs.EvenGroup.{arranged-from}
 use Rattle.mesh.specs.Mesh.{Face, uses, usesEitherWay, reversed}
-use Rattle.mesh.proofs.TurnedFaces.{Turned, turned-sym, FaceOf, no-p, no-q, no-r, no-s, same-faces, uses-face, face-uses}
+use Rattle.mesh.proofs.TurnedFaces.{turned-sym, FaceOf, no-p, no-q, no-r, no-s, same-faces, uses-face, face-uses}
 use Rattle.mesh.proofs.MeshRuleStated.{keeps-hits}
 use Rattle.mesh.proofs.EvenFaces.{even-uses}
 use Rattle.links.specs.Links.{Link, link}
@@ -229,9 +229,9 @@ module _ (site : Site) (ring : SoundRing site) (round : GoesRound (site .links) 
     -- ---- the faces that go
 
     -- a face of a removed row has both ends, or a new row uses it
-    pub face-goes : (f : Face) {row : Row} → List·Memᴰ row (site .removed) → T (uses f row)
+    pub ring-goes : (f : Face) {row : Row} → List·Memᴰ row (site .removed) → T (uses f row)
         → T (hasAll (site .a ∷ site .b ∷ []) f) ⊎ T (any (uses f) new)
-    face-goes f {row} k u =
+    ring-goes f {row} k u =
         let linked = removed-linked row k in
         let (x, at, side) = along (linked .joined) in
         go at side (linked .faces-of f u)
@@ -262,8 +262,8 @@ module _ (site : Site) (ring : SoundRing site) (round : GoesRound (site .links) 
             (λ x p e. no-a (ends-apart x p) (subst (λ row. T (holds row (site .a))) e ha))
 
     -- so a face with both ends is in no row afterwards
-    pub face-gone : (f : Face) → T (hasAll (site .a ∷ site .b ∷ []) f) → T (any (usesEitherWay f) (site .kept ++ new)) → ⊥
-    face-gone f all h =
+    pub ring-gone : (f : Face) → T (hasAll (site .a ∷ site .b ∷ []) f) → T (any (usesEitherWay f) (site .kept ++ new)) → ⊥
+    ring-gone f all h =
         let (row, k, u) = any-e (usesEitherWay f) (site .kept ++ new) h in
         after-not-both k (either-holds f row u (all-in (site .a ∷ site .b ∷ []) f all (List·Memᴰ·head refl)))
         (either-holds f row u (all-in (site .a ∷ site .b ∷ []) f all (List·Memᴰ·tail (List·Memᴰ·head refl))))
@@ -272,7 +272,7 @@ module _ (site : Site) (ring : SoundRing site) (round : GoesRound (site .links) 
     pub ring-stays : markGoes (site .a ∷ site .b ∷ []) (site .removed) ≡ false → NoMarkGoes (site .removed) (site .kept ++ new)
     ring-stays clear f marked =
         let (row, k, h) = any-e (marks f) (site .removed) marked in
-        go k h (face-goes f k (marks-uses f row h))
+        go k h (ring-goes f k (marks-uses f row h))
       where
         go : {row : Row} → List·Memᴰ row (site .removed) → T (marks f row)
             → T (hasAll (site .a ∷ site .b ∷ []) f) ⊎ T (any (uses f) new) → T (any (usesEitherWay f) (site .kept ++ new))
