@@ -46,7 +46,8 @@ agree-stated rows h t u mt mu f used met =
     let same : (g h : Face × Bool) → List·Memᴰ g (markedFaces t) → List·Memᴰ h (markedFaces u)
     → Turned f (g .0) → Turned (reversed f) (h .0) → g .1 ≡ h .1 =
     λ g k mg mk e d. meets-e g k
-    (every-at (meets g) all (every-at (λ g. every (meets g) all) all h (flatMap-i markedFaces rows mt mg)) (flatMap-i markedFaces rows mu mk))
+    (every-at (meets g) all (every-at (λ g. every (meets g) all) all h (flatMap-i markedFaces rows mt mg))
+    (flatMap-i markedFaces rows mu mk))
     (turned-trans (turned-sym (turned-reversed e)) d) in
     same-test (marks f t) (marks (reversed f) u)
     (λ marked.

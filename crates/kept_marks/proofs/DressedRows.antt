@@ -59,7 +59,8 @@ module _ (marked : Face → Bool) where
       ∙ ap (λ n. ind (uses f t) + n) (dress-hits f ts) ∙ sym (count-cons (uses f) t ts)
 
   -- the table afterwards keeps the mesh rule exactly when it does without marks
-  pub dress-keeps : (points : ℕ) (kept new : List Row) → keepsMeshRule points (kept ++ map (dressBy marked) new) ≡ keepsMeshRule points (kept ++ new)
+  pub dress-keeps : (points : ℕ) (kept new : List Row)
+      → keepsMeshRule points (kept ++ map (dressBy marked) new) ≡ keepsMeshRule points (kept ++ new)
   unfolding keepsMeshRule numbersFit dressBy
   dress-keeps points kept new =
       let fit = numbersFit points in
@@ -68,8 +69,8 @@ module _ (marked : Face → Bool) where
       rw (
         fits,
         apart-same (kept ++ map (dressBy marked) new) (kept ++ new) (λ f.
-        count-append (uses f) kept (map (dressBy marked) new)
-        ∙ ap (λ n. count (uses f) kept + n) (dress-hits f new) ∙ sym (count-append (uses f) kept new)),
+            count-append (uses f) kept (map (dressBy marked) new)
+            ∙ ap (λ n. count (uses f) kept + n) (dress-hits f new) ∙ sym (count-append (uses f) kept new)),
       )
 
   -- it is measured as the row is
@@ -146,10 +147,9 @@ module _ (marked : Face → Bool) (turns : Turns marked) where
 
   -- rows that are one tetrahedron are one tetrahedron dressed
   pub dress-even : (t u : Row) → T (rearranged t u) → T (rearranged (dressBy marked t) (dressBy marked u))
-  dress-even t u e = moved (λ t. T (rearranged (dressBy marked t) (dressBy marked u))) spun crossed t u e (even-refl (dressBy marked u))
-    where
-      spun : (t : Row) → T (rearranged (dressBy marked t) (dressBy marked u)) → T (rearranged (dressBy marked (spin t)) (dressBy marked u))
-      spun t h = even-trans (dressBy marked (spin t)) (dressBy marked t) (dressBy marked u) (spin-dress t) h
-
-      crossed : (t : Row) → T (rearranged (dressBy marked t) (dressBy marked u)) → T (rearranged (dressBy marked (cross t)) (dressBy marked u))
-      crossed t h = even-trans (dressBy marked (cross t)) (dressBy marked t) (dressBy marked u) (cross-dress t) h
+  dress-even t u e =
+      let d = dressBy marked in
+      moved (λ t. T (rearranged (d t) (d u)))
+      (λ t h. even-trans (d (spin t)) (d t) (d u) (spin-dress t) h)
+      (λ t h. even-trans (d (cross t)) (d t) (d u) (cross-dress t) h)
+      t u e (even-refl (d u))

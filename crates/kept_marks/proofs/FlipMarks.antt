@@ -3,13 +3,12 @@
 use Prim.Native.Nat.{ℕ}
 use mathlib.Core.Bool.{false, not}
 use mathlib.Core.List.{List, [], _∷_, _++_, List·Memᴰ, List·Memᴰ·head, List·Memᴰ·tail, List·Memᴰ·not-nil}
-use mathlib.Core.List.{List·Memᴰ·append-cases, Memᴰ·append-right}
+use mathlib.Core.List.{List·Memᴰ·append-cases}
 use mathlib.Core.Logic.{_⊎_, inl, inr}
 use mathlib.Core.Path.{_≡_, refl, sym, ap, _∙_, subst}
 use lib.Dec.{T, T-not}
 use lib.ListN.{getD}
 use Rattle.lists.specs.Lists.{any}
-use Rattle.lists.proofs.Tests.{or-l}
 use Rattle.lists.proofs.Lists.{any-i, any-e, every-at, every-i, those-e}
 use Rattle.lists.proofs.Places.{in-cases}
 use Rattle.rows.specs.declared.Row.{Row}
@@ -19,19 +18,19 @@ use Rattle.rows.specs.Regions.{regionOf}
 use Rattle.rows.specs.Tetrahedra.{rearranged, arrangedFrom}
 use Rattle.rows.proofs.EvenMoves.{holds-cases}
 use Rattle.mesh.specs.Mesh.{Face, uses, usesEitherWay, reversed, numbersFit, keepsMeshRule, Proper}
-use Rattle.mesh.proofs.TurnedFaces.{Turned, on, back, turned-sym, turned-trans, FaceOf, no-p, no-q, no-r, no-s, same-faces, uses-face, face-uses}
+use Rattle.mesh.proofs.TurnedFaces.{Turned, on, back, turned-sym, turned-trans}
+use Rattle.mesh.proofs.TurnedFaces.{FaceOf, no-p, no-q, no-r, no-s, same-faces, uses-face, face-uses}
 use Rattle.mesh.proofs.MeshRuleStated.{fit-proper, keeps-fits, keeps-hits}
 use Rattle.mesh.proofs.EvenFaces.{even-uses, even-proper}
 use Rattle.layout.specs.Layout.{Patch}
 use Rattle.walk.specs.Walk.{smallest}
 use Rattle.calls.specs.Flipping.{Pair, pairOf, threeRows}
-use Rattle.marking.specs.Marking.{marks, agree, markGoes, dressed}
+use Rattle.marking.specs.Marking.{agree, markGoes, dressed}
 use Rattle.kept_marks.specs.Replacing.{hasAll, Apart, NoMarkGoes, MarksKept}
-use Rattle.kept_marks.proofs.MarksOfRows.{marks-uses}
 use Rattle.kept_marks.proofs.AgreementTested.{agree-stated}
 use Rattle.kept_marks.proofs.PartedTables.{those-parted, keeps-different}
 use Rattle.kept_marks.proofs.MarksReplaced.{marks-kept}
-use Rattle.kept_marks.proofs.NumbersOfFaces.{at-0, at-1, at-2, turned-in, reversed-in, either-holds, all-in, in-all, goes-seen}
+use Rattle.kept_marks.proofs.NumbersOfFaces.{at-0, at-1, at-2, turned-in, reversed-in, either-holds, all-in, in-all, none-goes}
 use Rattle.kept_marks.proofs.LinksAndSides.{plainRow, SideOf, first, second, third, EndsApart, against-a, against-b}
 
 -- Two rows go, a's and b's: (a,u,v,w) and (u,v,w,b), evenly rearranged, where u, v, w are the numbers of the face.
@@ -50,7 +49,8 @@ pub record TwoGo (pair : Pair) (face : List ℕ) : Type 0 where
   pub b-numbers : numbers o ≡ t .q ∷ t .r ∷ t .s ∷ pair .b ∷ []
   pub ends : pair .a ≡ pair .b → ⊥
 
-module _ (count : ℕ) (patch : Patch) (face : List ℕ) (rule : T (keepsMeshRule count (patch .rows))) (two : TwoGo (pairOf patch face) face) where
+module _ (count : ℕ) (patch : Patch) (face : List ℕ) (rule : T (keepsMeshRule count (patch .rows)))
+    (two : TwoGo (pairOf patch face) face) where
   abbrev pair : Pair
   pair = pairOf patch face
 
@@ -175,8 +175,8 @@ module _ (count : ℕ) (patch : Patch) (face : List ℕ) (rule : T (keepsMeshRul
   -- ---- the face that goes
 
   -- a face of a row that goes has the numbers of the given one, or a row that comes uses it
-  pub flip-goes : (f : Face) {row : Row} → List·Memᴰ row (pair .removed) → T (uses f row) → T (hasAll face f) ⊎ T (any (uses f) new)
-  flip-goes f k used = go (removed-faces f k used)
+  pub flip-goes : (f : Face) (row : Row) → List·Memᴰ row (pair .removed) → T (uses f row) → T (hasAll face f) ⊎ T (any (uses f) new)
+  flip-goes f row k used = go (removed-faces f k used)
     where
       own : Turned f (u, v, w) → T (hasAll face f)
       own e = in-all face f (λ n k. turned-in (turned-sym e) (two .inside k))
@@ -220,16 +220,7 @@ module _ (count : ℕ) (patch : Patch) (face : List ℕ) (rule : T (keepsMeshRul
 
   -- where 23 is not given no marked face goes
   pub flip-stays : markGoes face (pair .removed) ≡ false → NoMarkGoes (pair .removed) (pair .kept ++ new)
-  flip-stays clear f marked =
-      let (row, k, h) = any-e (marks f) (pair .removed) marked in
-      go k h (flip-goes f k (marks-uses f row h))
-    where
-      go : {row : Row} → List·Memᴰ row (pair .removed) → T (marks f row) → T (hasAll face f) ⊎ T (any (uses f) new)
-          → T (any (usesEitherWay f) (pair .kept ++ new))
-      go k h (inl all) = absurd (subst T clear (goes-seen face (pair .removed) f k h all))
-      go k h (inr used) =
-          let (row, k, u) = any-e (uses f) new used in
-          any-i (usesEitherWay f) (pair .kept ++ new) (Memᴰ·append-right (pair .kept) k) (or-l (uses f row) (uses (reversed f) row) u)
+  flip-stays clear = none-goes face (pair .removed) (pair .kept) new flip-goes clear
 
   -- ---- the flip
 

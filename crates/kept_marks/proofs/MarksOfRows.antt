@@ -2,7 +2,7 @@
 -- are different has its four faces apart, so that each of them has its own mark.
 use Prim.Native.Nat.{ℕ, suc, _<_}
 use mathlib.Core.Bool.{Bool, true, false, not, _&&_, _||_}
-use mathlib.Core.List.{List, [], _∷_, List·Memᴰ, List·Memᴰ·head, List·Memᴰ·tail, Memᴰ·of-map}
+use mathlib.Core.List.{List, [], _∷_, List·Memᴰ, List·Memᴰ·head, List·Memᴰ·tail, Memᴰ·map, Memᴰ·of-map}
 use mathlib.Core.Path.{_≡_, refl, sym, ap, _∙_, subst}
 use native.Mathlib.Omega.{arith}
 use lib.Dec.{T, ltb, lt→ltb, eqb, eqb→eq}
@@ -14,11 +14,11 @@ use Rattle.rows.specs.declared.Row.{Row}
 use Rattle.rows.specs.Rows.{numbers}
 use Rattle.rows.specs.Tetrahedra.{rearranged}
 use Rattle.rows.proofs.EvenMoves.{spin, cross, even-test}
-use Rattle.mesh.specs.Mesh.{Face, sameFace, uses, numbersFit, Proper}
+use Rattle.mesh.specs.Mesh.{Face, faces, sameFace, uses, numbersFit, Proper}
 use Rattle.mesh.proofs.TurnedFaces.{Turned, stay, on, back, same-turned, turned-same, turned-sym, turned-trans}
 use Rattle.mesh.proofs.TurnedFaces.{FaceOf, no-p, no-q, no-r, no-s, uses-face, face-uses}
 use Rattle.mesh.proofs.MeshRuleStated.{fit-proper}
-use Rattle.mesh.proofs.OneWay.{faceAt, OfFour, places-turned}
+use Rattle.mesh.proofs.OneWay.{faceAt, OfFour, of-four, places-turned}
 use Rattle.marking.specs.Marking.{markedFaces, marks}
 
 -- ---- the view
@@ -146,15 +146,12 @@ one-place i j mi mj e =
 -- so has a face of a row with different numbers
 pub one-mark : (t : Row) → T (different (numbers t)) → (g h : Face × Bool) → List·Memᴰ g (markedFaces t) → List·Memᴰ h (markedFaces t)
     → Turned (g .0) (h .0) → g .1 ≡ h .1
-unfolding markedFaces fourPlaces markAt
+unfolding markedFaces fourPlaces markAt faces
 one-mark t d g h mg mh e =
     let at : Face × ℕ → Face × Bool = λ i. (faceAt t (i .0), markAt t (i .1)) in
     let (i, mi, isG) = Memᴰ·of-map at fourPlaces mg in
     let (j, mj, isH) = Memᴰ·of-map at fourPlaces mh in
-    let four : (i : Face × ℕ) → List·Memᴰ i fourPlaces → OfFour (i .0) =
-    each (λ i. OfFour (i .0)) fourPlaces
-    ((omega arith, omega arith, omega arith), ((omega arith, omega arith, omega arith), ((omega arith, omega arith, omega arith),
-    ((omega arith, omega arith, omega arith), tt)))) in
+    let four : (i : Face × ℕ) → List·Memᴰ i fourPlaces → OfFour (i .0) = λ i mi. of-four (i .0) (Memᴰ·map (λ (i : Face × ℕ). i .0) mi) in
     let turned = places-turned (suc (sum (numbers t))) t (different-proper t d) (i .0) (j .0) (four i mi) (four j mj)
     (subst (λ x. Turned (faceAt t (i .0)) (x .0)) (sym isH) (subst (λ x. Turned (x .0) (h .0)) (sym isG) e)) in
     ap (λ x. x .1) (sym isG) ∙ ap (markAt t) (one-place i j mi mj turned) ∙ ap (λ x. x .1) isH

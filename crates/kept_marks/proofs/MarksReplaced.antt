@@ -213,7 +213,7 @@ module _ (before removed kept new : List Row) (parts : Parted before removed kep
 
       fro : T (markedIn before f) → T (any (usesEitherWay f) rows) → T (markedIn rows f)
       fro h s =
-              let k = any-e (usesEitherWay f) rows s in
+          let k = any-e (usesEitherWay f) rows s in
           at (k .0) (k .1) (or-e (uses f (k .0)) (uses (reversed f) (k .0)) (k .2))
         where
           at : (t : Row) → List·Memᴰ t rows → T (uses f t) ⊎ T (uses (reversed f) t)

@@ -1,23 +1,23 @@
--- The three numbers of a face: turned or the other way round it has the same, a row holds those of its faces, and a marked face that has
+-- The three numbers of a face: turned or the other way round it has the same, and a row holds those of its faces. A marked face that has
 -- all of some numbers is one that 23 sees.
 use Prim.Native.Nat.{ℕ}
-use mathlib.Core.Bool.{Bool, _&&_}
-use mathlib.Core.List.{List, [], _∷_, List·Memᴰ, List·Memᴰ·head, List·Memᴰ·tail, List·Memᴰ·not-nil}
+use mathlib.Core.Bool.{Bool, false, _&&_}
+use mathlib.Core.List.{List, [], _∷_, _++_, List·Memᴰ, List·Memᴰ·head, List·Memᴰ·tail, List·Memᴰ·not-nil, Memᴰ·append-right}
 use mathlib.Core.Logic.{_⊎_, inl, inr}
-use mathlib.Core.Path.{_≡_, _∙_}
+use mathlib.Core.Path.{_≡_, _∙_, subst}
 use lib.Dec.{T}
-use Rattle.lists.specs.Lists.{every, has}
-use Rattle.lists.proofs.Tests.{and-i, or-e}
+use Rattle.lists.specs.Lists.{every, any, has}
+use Rattle.lists.proofs.Tests.{and-i, or-l, or-e}
 use Rattle.lists.proofs.Places.{in-cases}
-use Rattle.lists.proofs.Lists.{any-i, every-at, every-i}
+use Rattle.lists.proofs.Lists.{any-i, any-e, every-at, every-i}
 use Rattle.lists.proofs.Numbers.{has-i, has-e}
 use Rattle.rows.specs.declared.Row.{Row}
 use Rattle.rows.specs.Rows.{numbers, holds}
 use Rattle.mesh.specs.Mesh.{Face, uses, usesEitherWay, reversed}
 use Rattle.mesh.proofs.TurnedFaces.{Turned, as-is, once, twice, FaceOf, no-p, no-q, no-r, no-s, uses-face}
 use Rattle.marking.specs.Marking.{markedFaces, marks, marksOver, markGoes}
-use Rattle.kept_marks.specs.Replacing.{hasAll}
-use Rattle.kept_marks.proofs.MarksOfRows.{marks-e}
+use Rattle.kept_marks.specs.Replacing.{hasAll, NoMarkGoes}
+use Rattle.kept_marks.proofs.MarksOfRows.{marks-e, marks-uses}
 
 abbrev pub threeOf : Face → List ℕ
 threeOf f = f .0 ∷ f .1 ∷ f .2 ∷ []
@@ -78,7 +78,7 @@ pub in-all : (ns : List ℕ) (f : Face) → ((n : ℕ) → List·Memᴰ n ns →
 in-all ns f h = every-i (has (threeOf f)) ns (λ n m. has-i (threeOf f) (h n m))
 
 -- a marked face with all these numbers is seen
-pub goes-seen : (ns : List ℕ) (removed : List Row) (f : Face) {row : Row} → List·Memᴰ row removed → T (marks f row) → T (hasAll ns f)
+goes-seen : (ns : List ℕ) (removed : List Row) (f : Face) {row : Row} → List·Memᴰ row removed → T (marks f row) → T (hasAll ns f)
     → T (markGoes ns removed)
 unfolding marksOver
 goes-seen ns removed f {row} m marked all =
@@ -87,3 +87,18 @@ goes-seen ns removed f {row} m marked all =
     any-i (marksOver ns) removed m
     (any-i (λ g. over (g .0) && g .1) (markedFaces row) at
     (and-i (over (g .0)) (g .1) (in-all ns (g .0) (λ n m. turned-in e (all-in ns f all m))) mark))
+
+-- so where the other faces pass to new rows and 23 is not given, no marked face goes
+pub none-goes : (ns : List ℕ) (removed kept new : List Row)
+    → ((f : Face) (row : Row) → List·Memᴰ row removed → T (uses f row) → T (hasAll ns f) ⊎ T (any (uses f) new))
+    → markGoes ns removed ≡ false → NoMarkGoes removed (kept ++ new)
+none-goes ns removed kept new passes clear f marked =
+    let (row, k, h) = any-e (marks f) removed marked in
+    go k h (passes f row k (marks-uses f row h))
+  where
+    go : {row : Row} → List·Memᴰ row removed → T (marks f row) → T (hasAll ns f) ⊎ T (any (uses f) new)
+        → T (any (usesEitherWay f) (kept ++ new))
+    go k h (inl all) = absurd (subst T clear (goes-seen ns removed f k h all))
+    go k h (inr used) =
+        let (row, k, u) = any-e (uses f) new used in
+        any-i (usesEitherWay f) (kept ++ new) (Memᴰ·append-right kept k) (or-l (uses f row) (uses (reversed f) row) u)

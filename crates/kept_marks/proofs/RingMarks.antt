@@ -4,7 +4,7 @@
 use Prim.Native.Nat.{ℕ, suc, _+_, _-_, _<_, _≤_}
 use mathlib.Core.Bool.{Bool, true, false, cond, not, _||_}
 use mathlib.Core.List.{List, [], _∷_, _++_, List·Memᴰ, List·Memᴰ·head, List·Memᴰ·tail, List·Memᴰ·not-nil, Memᴰ·map}
-use mathlib.Core.List.{List·Memᴰ·append-cases, Memᴰ·append-right}
+use mathlib.Core.List.{List·Memᴰ·append-cases}
 use mathlib.Core.Logic.{_⊎_, inl, inr}
 use mathlib.Core.Path.{_≡_, refl, sym, ap, subst}
 use native.Mathlib.Decide.{decLt}
@@ -13,7 +13,7 @@ use borrow.Author.Tests.{eq-eqb, ne-eqb}
 use lib.Dec.{T, T-not}
 use lib.ListN.{length, getD}
 use Rattle.lists.specs.Lists.{any, those, count}
-use Rattle.lists.proofs.Tests.{and-l, and-r, and-i, or-l, or-e}
+use Rattle.lists.proofs.Tests.{and-l, and-r, and-i, or-e}
 use Rattle.lists.proofs.Lists.{any-i, any-e, those-e}
 use Rattle.lists.proofs.Images.{flatMap-i, flatMap-e}
 use Rattle.lists.proofs.Places.{in-cases}
@@ -37,13 +37,12 @@ use Rattle.triangulation.proofs.Trees.{aRow, bRow}
 use Rattle.triangulation.proofs.NoFaceTwice.{Different}
 use Rattle.triangulation.proofs.NewRowsProper.{table-users, all-differ}
 use Rattle.triangulation.proofs.TreesTriangulate.{InPiece, triangles-within, hasEdge, sameSide, side→, side-in-one, closing-in-one}
-use Rattle.marking.specs.Marking.{marks, agree, markGoes, dressed}
+use Rattle.marking.specs.Marking.{agree, markGoes, dressed}
 use Rattle.kept_marks.specs.Replacing.{hasAll, UsedOnce, Parted, Apart, NoMarkGoes, MarksKept}
-use Rattle.kept_marks.proofs.MarksOfRows.{marks-uses}
 use Rattle.kept_marks.proofs.AgreementTested.{agree-stated}
 use Rattle.kept_marks.proofs.PartedTables.{those-parted, keeps-different}
 use Rattle.kept_marks.proofs.MarksReplaced.{marks-kept}
-use Rattle.kept_marks.proofs.NumbersOfFaces.{at-0, at-1, at-2, turned-in, either-holds, all-in, in-all, goes-seen}
+use Rattle.kept_marks.proofs.NumbersOfFaces.{at-0, at-1, at-2, turned-in, either-holds, all-in, in-all, none-goes}
 use Rattle.kept_marks.proofs.LinksAndSides.{plainRow, SideOf, first, second, third, outer-a, outer-b}
 use Rattle.kept_marks.proofs.LinksAndSides.{EndsApart, no-a, no-b, against-a, against-b}
 
@@ -172,7 +171,8 @@ module _ (site : Site) (ring : SoundRing site) (round : GoesRound (site .links) 
 
     closing-along : (x : Triangle) → InPiece 1 (m site) x → T (hasEdge (1, m site) x) → Along x (m site) 1
     closing-along x inside h =
-        edge-cases (1, m site) x h (λ d e. absurd (omega arith)) (λ d e. absurd (omega arith)) (λ d e. third (ap (v site) e) (ap (v site) d))
+        edge-cases (1, m site) x h (λ d e. absurd (omega arith)) (λ d e. absurd (omega arith))
+        (λ d e. third (ap (v site) e) (ap (v site) d))
 
     along : {l n : ℕ} → Joined (m site) l n → (x : Triangle) × List·Memᴰ x (triangles 1 t) × Along x l n
     along (next {i} low high) =
@@ -229,9 +229,9 @@ module _ (site : Site) (ring : SoundRing site) (round : GoesRound (site .links) 
     -- ---- the faces that go
 
     -- a face of a removed row has both ends, or a new row uses it
-    pub ring-goes : (f : Face) {row : Row} → List·Memᴰ row (site .removed) → T (uses f row)
+    pub ring-goes : (f : Face) (row : Row) → List·Memᴰ row (site .removed) → T (uses f row)
         → T (hasAll (site .a ∷ site .b ∷ []) f) ⊎ T (any (uses f) new)
-    ring-goes f {row} k u =
+    ring-goes f row k u =
         let linked = removed-linked row k in
         let (x, at, side) = along (linked .joined) in
         go at side (linked .faces-of f u)
@@ -239,7 +239,8 @@ module _ (site : Site) (ring : SoundRing site) (round : GoesRound (site .links) 
         both : List·Memᴰ (site .a) (f .0 ∷ f .1 ∷ f .2 ∷ []) → List·Memᴰ (site .b) (f .0 ∷ f .1 ∷ f .2 ∷ [])
             → T (hasAll (site .a ∷ site .b ∷ []) f)
         both ma mb =
-            in-all (site .a ∷ site .b ∷ []) f (λ n k. in-cases k (λ e. rw e ma) λ k. in-cases k (λ e. rw e mb) λ k. absurd (List·Memᴰ·not-nil k))
+            in-all (site .a ∷ site .b ∷ []) f λ n k.
+            in-cases k (λ e. rw e ma) λ k. in-cases k (λ e. rw e mb) λ k. absurd (List·Memᴰ·not-nil k)
 
         go : {x : Triangle} {r s : ℕ} → List·Memᴰ x (triangles 1 t) → SideOf (v site (x .0)) (v site (x .1)) (v site (x .2)) r s
             → FaceOf f (plainRow (site .a) (site .b) r s) → T (hasAll (site .a ∷ site .b ∷ []) f) ⊎ T (any (uses f) new)
@@ -270,22 +271,14 @@ module _ (site : Site) (ring : SoundRing site) (round : GoesRound (site .links) 
 
     -- where 23 is not given no marked face goes
     pub ring-stays : markGoes (site .a ∷ site .b ∷ []) (site .removed) ≡ false → NoMarkGoes (site .removed) (site .kept ++ new)
-    ring-stays clear f marked =
-        let (row, k, h) = any-e (marks f) (site .removed) marked in
-        go k h (ring-goes f k (marks-uses f row h))
-      where
-        go : {row : Row} → List·Memᴰ row (site .removed) → T (marks f row)
-            → T (hasAll (site .a ∷ site .b ∷ []) f) ⊎ T (any (uses f) new) → T (any (usesEitherWay f) (site .kept ++ new))
-        go k h (inl all) = absurd (subst T clear (goes-seen (site .a ∷ site .b ∷ []) (site .removed) f k h all))
-        go k h (inr used) =
-            let (row, k, u) = any-e (uses f) new used in
-            any-i (usesEitherWay f) (site .kept ++ new) (Memᴰ·append-right (site .kept) k) (or-l (uses f row) (uses (reversed f) row) u)
+    ring-stays clear = none-goes (site .a ∷ site .b ∷ []) (site .removed) (site .kept) new ring-goes clear
 
     -- ---- the removal
 
     pub removal-marks : (table : List Row) → site .removed ≡ those (holdsEdge (site .a) (site .b)) table
         → site .kept ≡ those (λ row. not (holdsEdge (site .a) (site .b) row)) table → T (agree table) → T (admissible site t)
-        → markGoes (site .a ∷ site .b ∷ []) (site .removed) ≡ false → MarksKept table (site .kept ++ dressed (site .removed) (site .kept) new)
+        → markGoes (site .a ∷ site .b ∷ []) (site .removed) ≡ false
+        → MarksKept table (site .kept ++ dressed (site .removed) (site .kept) (newRows site 1 t))
     unfolding admissible tableAfter
     removal-marks table going staying agrees keeps clear =
         let parted : Parted table (site .removed) (site .kept) = rw (going, staying) (those-parted (holdsEdge (site .a) (site .b)) table) in
