@@ -3,8 +3,8 @@
 -- So the faces that go are exactly those with both ends.
 use Prim.Native.Nat.{ℕ, suc, _+_, _-_, _<_, _≤_}
 use mathlib.Core.Bool.{Bool, true, false, cond, not, _||_}
-use mathlib.Core.List.{List, [], _∷_, _++_, List·Memᴰ, List·Memᴰ·head, List·Memᴰ·tail, List·Memᴰ·not-nil, Memᴰ·map}
-use mathlib.Core.List.{List·Memᴰ·append-cases}
+use mathlib.Core.List.{List, [], _∷_, _++_, List·Memᴰ, List·Memᴰ·head, List·Memᴰ·tail, List·Memᴰ·not-nil}
+use mathlib.Core.List.{List·Memᴰ·append-cases, Memᴰ·map}
 use mathlib.Core.Logic.{_⊎_, inl, inr}
 use mathlib.Core.Path.{_≡_, refl, sym, ap, subst}
 use native.Mathlib.Decide.{decLt}
@@ -140,29 +140,29 @@ module _ (site : Site) (ring : SoundRing site) (round : GoesRound (site .links) 
       b-z = differ .not-b (x .2) (omega arith);
     }
 
-    -- no link runs against a side
-    never-against : (x : Triangle) → InPiece 1 (m site) x → {l n : ℕ} → Joined (m site) l n
-        → SideOf (v site (x .0)) (v site (x .1)) (v site (x .2)) (v site n) (v site l) → ⊥
-    never-against x h {l} {n} j s = go j s
-      where
-        one : (i k : ℕ) → (1 ≤ i) × (i ≤ m site) → (1 ≤ k) × (k ≤ m site) → v site i ≡ v site k → i ≡ k
-        one i k p q e = differ .points i k p q e
-
-        go : {l n : ℕ} → Joined (m site) l n → SideOf (v site (x .0)) (v site (x .1)) (v site (x .2)) (v site n) (v site l) → ⊥
-        go (next {i} low high) (first d e) =
-            omega (arith, one (suc i) (x .0) (omega arith) (omega arith) d, one i (x .1) (omega arith) (omega arith) e)
-        go (next {i} low high) (second d e) =
-            omega (arith, one (suc i) (x .1) (omega arith) (omega arith) d, one i (x .2) (omega arith) (omega arith) e)
-        go (next {i} low high) (third d e) =
-            omega (arith, one (suc i) (x .2) (omega arith) (omega arith) d, one i (x .0) (omega arith) (omega arith) e)
-        go closing (first d e) = omega (arith, one (m site) (x .1) (omega arith) (omega arith) e)
-        go closing (second d e) = omega (arith, one 1 (x .1) (omega arith) (omega arith) d)
-        go closing (third d e) = omega (arith, one 1 (x .2) (omega arith) (omega arith) d)
-
-    -- every link runs along one
-
+    -- the link between two places runs along a side
     abbrev Along : Triangle → ℕ → ℕ → Type 0
     Along x l n = SideOf (v site (x .0)) (v site (x .1)) (v site (x .2)) (v site l) (v site n)
+
+    -- no link runs against one
+    never-against : (x : Triangle) → InPiece 1 (m site) x → {l n : ℕ} → Joined (m site) l n → Along x n l → ⊥
+    never-against x h (next {i} low high) (first d e) =
+        let n = differ .points (suc i) (x .0) (omega arith) (omega arith) d in
+        let l = differ .points i (x .1) (omega arith) (omega arith) e in
+        omega arith
+    never-against x h (next {i} low high) (second d e) =
+        let n = differ .points (suc i) (x .1) (omega arith) (omega arith) d in
+        let l = differ .points i (x .2) (omega arith) (omega arith) e in
+        omega arith
+    never-against x h (next {i} low high) (third d e) =
+        let n = differ .points (suc i) (x .2) (omega arith) (omega arith) d in
+        let l = differ .points i (x .0) (omega arith) (omega arith) e in
+        omega arith
+    never-against x h closing (first d e) = omega (arith, differ .points (m site) (x .1) (omega arith) (omega arith) e)
+    never-against x h closing (second d e) = omega (arith, differ .points 1 (x .1) (omega arith) (omega arith) d)
+    never-against x h closing (third d e) = omega (arith, differ .points 1 (x .2) (omega arith) (omega arith) d)
+
+    -- every link runs along one
 
     next-along : (i : ℕ) (x : Triangle) → InPiece 1 (m site) x → T (hasEdge (i, suc i) x) → Along x i (suc i)
     next-along i x inside h =
@@ -217,7 +217,7 @@ module _ (site : Site) (ring : SoundRing site) (round : GoesRound (site .links) 
     pub ring-apart : Apart (site .removed) new
     ring-apart f old other =
         let (row, k, u) = any-e (uses f) (site .removed) old in
-        let (second-row, l, w) = any-e (uses (reversed f)) new other in
+        let (_, l, w) = any-e (uses (reversed f)) new other in
         let linked = removed-linked row k in
         let face = linked .faces-of f u in
         new-cases l
