@@ -186,11 +186,9 @@ module _ (before removed kept new : List Row) (parts : Parted before removed kep
   -- and, where no marked face goes, the same faces are marked
   after-marked : NoMarkGoes removed (kept ++ new) → (f : Face) → markedIn rows f ≡ markedIn before f
   after-marked stays f =
-      same-test (markedIn rows f) (markedIn before f) (λ h. to (marked-e rows f h))
-      (λ h. fro h (stands (marked-e before f h)))
+      same-test (markedIn rows f) (markedIn before f) (λ h. to (marked-e rows f h)) (λ h. fro h (stands (marked-e before f h)))
     where
-      to : T (any (marks f) rows) ⊎ T (any (marks (reversed f)) rows)
-          → T (markedIn before f)
+      to : T (any (marks f) rows) ⊎ T (any (marks (reversed f)) rows) → T (markedIn before f)
       to (inl h) =
           let k = any-e (marks f) rows h in
           rw (after-mark f (k .0) (k .1) (marks-uses f (k .0) (k .2))) at (k .2)
@@ -216,12 +214,11 @@ module _ (before removed kept new : List Row) (parts : Parted before removed kep
           let k = any-e (usesEitherWay f) rows s in
           at (k .0) (k .1) (or-e (uses f (k .0)) (uses (reversed f) (k .0)) (k .2))
         where
-          at : (t : Row) → List·Memᴰ t rows → T (uses f t) ⊎ T (uses (reversed f) t)
-              → T (markedIn rows f)
+          at : (t : Row) → List·Memᴰ t rows → T (uses f t) ⊎ T (uses (reversed f) t) → T (markedIn rows f)
           at t m (inl u) = marked-i rows f m (rw (after-mark f t m u) h)
           at t m (inr u) =
-              rw (marked-sides rows f) at
-              (marked-i rows (reversed f) m (rw (after-mark (reversed f) t m u, marked-sides before f) h))
+              let there = marked-i rows (reversed f) m (rw (after-mark (reversed f) t m u, marked-sides before f) h) in
+              rw (marked-sides rows f) at there
 
   pub marks-kept : NoMarkGoes removed (kept ++ new) → AllDifferent (kept ++ new) → MarksKept before (kept ++ dressed removed kept new)
   marks-kept stays different = record {
