@@ -7,12 +7,13 @@
  * THE PATCH BLOCK, 512 bytes
  *
  *   byte       meaning
- *   0          version, 1
+ *   0          version: 1, or 2 with marked faces
  *   1          points, 0 to 64
  *   2          rows, 0 to 60
  *   3..15      zero
  *   16..207    64 points of 3 bytes: x, y, z, each 0 to 255
- *   208..507   60 rows of 5 bytes: four point numbers, then the region, 0 to 255
+ *   208..507   60 rows of 5 bytes: four point numbers, then the region, 0 to 255; in version 2 the region, 0 to 15, and
+ *              the marks of the row's faces
  *   508, 509   first sum, low byte first
  *   510, 511   second sum, low byte first
  *
@@ -23,6 +24,24 @@
  * is below. Flat and inverted rows are allowed, and two points may share a place. Mesh rule: the numbers of a row are
  * below the point count and all different, and no directed face stands in two rows; the directed faces of a row are
  * (q,r,s), (p,s,r), (p,q,s), (p,r,q), each the same when its numbers are turned round in a circle.
+ *
+ * MARKED FACES, version 2 only
+ *
+ * A marked face carries something, a load surface say, and must not go. The last byte of a row (p,q,r,s) is the region plus a
+ * bit for each of its faces that is marked:
+ *
+ *   bit        meaning
+ *   0..3       the region, 0 to 15
+ *   4          (q,r,s) is marked, the face opposite p
+ *   5          (p,s,r), opposite q
+ *   6          (p,q,s), opposite r
+ *   7          (p,r,q), opposite s
+ *
+ * So when a row is rearranged evenly, each bit goes with the number that its face lies opposite to. A face between two
+ * rows is marked in both or in neither; one that a single row has may be marked or not. A call that would take a marked face
+ * away is refused. Otherwise the same faces are marked afterwards as before, whatever rows they are in then. Of an edge that is
+ * removed, or flipped away, the faces with both its ends go: all that lie between two of the rows round it, and of an open
+ * chain the two outer ones as well. Of a 2-3 flip the face itself goes. A block that is written has the version of its input.
  *
  * THE QUALITY of a row is 432 D^2 / S^3 with the sign of D, S being the sum of the six squared edge lengths: 1 for a
  * regular tetrahedron, 0 for a flat one. Better and worse are decided on the exact fractions. The score is 1000 times the
@@ -78,7 +97,8 @@ extern "C" {
 #define SUMPNEWT_PAGE_ELEMENTS 2     /* a page row */
 
 /* Where a block has what. */
-#define SUMPNEWT_VERSION 1
+#define SUMPNEWT_VERSION_PLAIN 1   /* regions 0 to 255, no marks */
+#define SUMPNEWT_VERSION_MARKED 2  /* regions 0 to 15, and marks */
 #define SUMPNEWT_MAX_POINTS 64
 #define SUMPNEWT_MAX_ROWS 60
 #define SUMPNEWT_VERSION_AT 0
@@ -88,6 +108,13 @@ extern "C" {
 #define SUMPNEWT_POINT_BYTES 3
 #define SUMPNEWT_ROWS_AT 208
 #define SUMPNEWT_ROW_BYTES 5
+
+/* What the last byte of a row (p,q,r,s) has in version 2. */
+#define SUMPNEWT_REGION_BITS 15
+#define SUMPNEWT_MARK_QRS 16
+#define SUMPNEWT_MARK_PSR 32
+#define SUMPNEWT_MARK_PQS 64
+#define SUMPNEWT_MARK_PRQ 128
 
 /*
  * The bytes of stack that a call needs below its caller's frame, whatever its input: measured on x86-64 and on Arm, the
@@ -106,11 +133,13 @@ enum {
     SUMPNEWT_DONE = 0,
     SUMPNEWT_LENGTH = 1,         /* a length is not the one it must be */
     SUMPNEWT_SUM = 2,            /* a sum is wrong */
-    SUMPNEWT_NOT_VERSION_1 = 3,  /* the version is not 1 */
+    SUMPNEWT_NOT_A_VERSION = 3,  /* the version is neither 1 nor 2 */
     SUMPNEWT_COUNT = 4,          /* a count is over its limit */
     SUMPNEWT_NOT_ZERO = 5,       /* a byte that must be zero is not */
     SUMPNEWT_ROW = 7,            /* a row's number is not below the point count, or repeats */
     SUMPNEWT_FACE_TWICE = 8,     /* a directed face stands in two rows */
+    SUMPNEWT_MARKS_DISAGREE = 22,
+                                 /* a face between two rows is marked in only one of them */
     SUMPNEWT_NOT_TWO_OR_THREE = 21,
                                  /* flip: neither two numbers nor three are given */
     SUMPNEWT_BAD_NUMBER = 9,     /* an edge or face number is not below the point count, or equal to another */
@@ -122,6 +151,7 @@ enum {
     SUMPNEWT_NOT_FLAT = 19,      /* removal: the ends of the open chain and of the edge are not in one plane */
     SUMPNEWT_ONE_APEX = 18,      /* 2-3 flip: both apexes are one point */
     SUMPNEWT_TWO_REGIONS = 20,   /* the rows that go have more than one region */
+    SUMPNEWT_MARK_GOES = 23,     /* a marked face would go */
     SUMPNEWT_NO_ROOM = 14,       /* rows afterwards would be over 60 */
     SUMPNEWT_BLOCKED = 15,       /* no triangulation is admissible (2-3 flip: the mesh rule would break) */
     SUMPNEWT_NONE_BETTER = 16    /* removal: each makes a tetrahedron no better than the worst round the edge now */
@@ -155,13 +185,13 @@ enum {
 
 /*
  * Opens a block: is everything in it as it must be?
- * Answers 0 to 5, 7 and 8.
+ * Answers 0 to 5, 7, 8 and 22.
  */
 uint32_t sumpnewt_open(const uint8_t *block, size_t n);
 
 /*
  * Seals the first 508 bytes of a block: writes them and their two sums as the 512 bytes of `out`.
- * n must be 508 and out_n 512. Answers 0, 1, 3 to 5, 7 and 8.
+ * n must be 508 and out_n 512. Answers 0, 1, 3 to 5, 7, 8 and 22.
  */
 uint32_t sumpnewt_seal(const uint8_t *fields, size_t n, uint8_t *out, size_t out_n);
 
@@ -182,8 +212,9 @@ uint32_t sumpnewt_shown(const uint8_t *block, size_t n, double *out, size_t out_
  * Removes the edge between the points numbered a and b, in either order: of all ways to fill the room round it without
  * the edge that keep the mesh rule, the one whose worst tetrahedron is best, if that is better than the worst there now.
  * The tetrahedra round the edge close, or they are one open chain between two outer faces that make one plane; and they are
- * of one region. The new block has the kept rows in order, then the new rows with that region; points stay.
- * out_n must be 512. Answers 0 to 5, 7 to 16, 19 and 20.
+ * of one region; and no marked face goes with it. The new block has the kept rows in order, then the new rows with that
+ * region; points stay, and so do marks.
+ * out_n must be 512. Answers 0 to 5, 7 to 16, 19, 20, 22 and 23.
  */
 uint32_t sumpnewt_remove(const uint8_t *block, size_t n, size_t a, size_t b, uint8_t *out, size_t out_n);
 
@@ -196,10 +227,11 @@ uint32_t sumpnewt_page(const uint8_t *block, size_t n, size_t a, size_t b, doubl
 /*
  * Flips, whatever the quality. Two numbers are the ends of an edge, in either order: the three rows that close round it
  * become two. Three numbers are a face, in any order: the two rows at it become three. Any other count gets 21.
- * The rows that go must have one region. The new block has the kept rows in order, then the new rows with that region; points stay.
- * out_n must be 512. Answers with two numbers: 0 to 5, 7 to 13, 20 and 15; 11 for every open case, 13 unless there are exactly
- * three. With three: 0 to 5, 7 to 11, 18, 20, 14 and 15. With any other count: 1 to 5, 7, 8 and 21. With count 0 numbers may be
- * a null pointer.
+ * The rows that go must have one region, and no marked face may go with them. The new block has the kept rows in order, then the
+ * new rows with that region; points stay, and so do marks.
+ * out_n must be 512. Answers with two numbers: 0 to 5, 7, 8, 22, 9 to 13, 20, 23 and 15; 11 for every open case, 13 unless there
+ * are exactly three. With three: 0 to 5, 7, 8, 22, 9 to 11, 18, 20, 23, 14 and 15. With any other count: 1 to 5, 7, 8, 22 and 21.
+ * With count 0 numbers may be a null pointer.
  */
 uint32_t sumpnewt_flip(const uint8_t *block, size_t n, const size_t *numbers, size_t count, uint8_t *out, size_t out_n);
 

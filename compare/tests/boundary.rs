@@ -10,13 +10,14 @@ use std::fs;
 
 /// Every name of the header but the bytes of stack, with the model's number, in the header's order: for the answers that in
 /// which they are tested.
-const NAMES: [(&str, usize); 44] = [
+const NAMES: [(&str, usize); 52] = [
     ("BLOCK_BYTES", limits::BLOCK_BYTES),
     ("FIELDS_BYTES", limits::FIELD_BYTES),
     ("SUMMARY_ELEMENTS", SUMMARY_NUMBERS),
     ("SHOWN_ELEMENTS", SHOWN_NUMBERS),
     ("PAGE_ELEMENTS", PAGE_NUMBERS),
-    ("VERSION", limits::VERSION as usize),
+    ("VERSION_PLAIN", limits::PLAIN as usize),
+    ("VERSION_MARKED", limits::MARKED as usize),
     ("MAX_POINTS", limits::MAX_POINTS),
     ("MAX_ROWS", limits::MAX_ROWS),
     ("VERSION_AT", limits::VERSION_AT),
@@ -26,14 +27,20 @@ const NAMES: [(&str, usize); 44] = [
     ("POINT_BYTES", limits::POINT_BYTES),
     ("ROWS_AT", limits::ROWS_AT),
     ("ROW_BYTES", limits::ROW_BYTES),
+    ("REGION_BITS", limits::REGION_BITS as usize),
+    ("MARK_QRS", limits::MARK_BITS[0] as usize),
+    ("MARK_PSR", limits::MARK_BITS[1] as usize),
+    ("MARK_PQS", limits::MARK_BITS[2] as usize),
+    ("MARK_PRQ", limits::MARK_BITS[3] as usize),
     ("DONE", answer::DONE as usize),
     ("LENGTH", answer::LENGTH as usize),
     ("SUM", answer::SUM as usize),
-    ("NOT_VERSION_1", answer::VERSION as usize),
+    ("NOT_A_VERSION", answer::VERSION as usize),
     ("COUNT", answer::COUNT as usize),
     ("NOT_ZERO", answer::NOT_ZERO as usize),
     ("ROW", answer::ROW as usize),
     ("FACE_TWICE", answer::FACE_TWICE as usize),
+    ("MARKS_DISAGREE", answer::MARKS_DISAGREE as usize),
     ("NOT_TWO_OR_THREE", answer::NOT_TWO_OR_THREE as usize),
     ("BAD_NUMBER", answer::BAD_NUMBER as usize),
     ("NOT_HELD", answer::NOT_HELD as usize),
@@ -43,6 +50,7 @@ const NAMES: [(&str, usize); 44] = [
     ("NOT_FLAT", answer::NOT_FLAT as usize),
     ("ONE_APEX", answer::ONE_APEX as usize),
     ("TWO_REGIONS", answer::TWO_REGIONS as usize),
+    ("MARK_GOES", answer::MARK_GOES as usize),
     ("NO_ROOM", answer::ROOM as usize),
     ("BLOCKED", answer::NOT_ADMISSIBLE as usize),
     ("NONE_BETTER", answer::NONE_BETTER as usize),
@@ -108,6 +116,7 @@ outputs fresh from malloc: 35 calls
 outputs fresh on the stack: 35 calls
 flips with neither two numbers nor three: 312 calls
 flips with a null pointer for no numbers: 4 calls
+marked faces: 27 calls
 ";
 
 #[cfg(kernel)]

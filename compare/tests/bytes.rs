@@ -7,7 +7,7 @@ use compare::gen::cases;
 use compare::model::block::with_sums;
 use compare::model::{answer, flip, open, remove, seal, summary, Call, Patch};
 
-/// The answers 3 to 8 again, written byte by byte.
+/// The answers 3 to 8 and 22 again, written byte by byte.
 fn expected(fields: &[u8; 508]) -> u32 {
     let (points, rows) = (usize::from(fields[1]), usize::from(fields[2]));
     let idle = |at: usize| match at {
@@ -23,7 +23,7 @@ fn expected(fields: &[u8; 508]) -> u32 {
         numbers.dedup();
         numbers.len() == 4 && usize::from(numbers[3]) < points
     };
-    if fields[0] != 1 {
+    if fields[0] != 1 && fields[0] != 2 {
         3
     } else if points > 64 || rows > 60 {
         4
@@ -33,9 +33,29 @@ fn expected(fields: &[u8; 508]) -> u32 {
         7
     } else if a_face_twice((0..rows).map(row)) {
         8
+    } else if fields[0] == 2 && marks_differ(&fields[208..208 + 5 * rows]) {
+        22
     } else {
         0
     }
+}
+
+/// Whether two rows hold the same three points, and one of them has the bit of its fourth point set and the other has not.
+fn marks_differ(rows: &[u8]) -> bool {
+    let mut faces: Vec<([u8; 3], bool)> = vec![];
+    for row in rows.chunks_exact(5) {
+        for place in 0..4 {
+            let others = (0..4).filter(|other| *other != place);
+            let mut face: Vec<u8> = others.map(|other| row[other]).collect();
+            face.sort_unstable();
+            let marked = row[4] & 16 << place != 0;
+            faces.push((face.try_into().unwrap(), marked));
+        }
+    }
+    faces.sort_unstable();
+    faces
+        .windows(2)
+        .any(|two| two[0].0 == two[1].0 && two[0].1 != two[1].1)
 }
 
 /// The directed faces of a row: one place left out, the other three turned as its sign asks, the
@@ -62,17 +82,26 @@ fn number<T>(outcome: Result<T, u32>) -> u32 {
     outcome.err().unwrap_or(0)
 }
 
-/// Some good blocks: block A, the empty one, and generated ones.
+/// Some good blocks: block A, the empty one, block A with marks, and generated ones of both versions.
 fn good_blocks() -> Vec<[u8; 512]> {
     let empty = patch(&[], &[], 0);
     let middling = |patch: &Patch| (8..=16).contains(&patch.rows.len());
     let generated = edges(10, 1_000).map(|(patch, _)| patch);
     let generated = generated
-        .filter(middling)
+        .filter(|patch| patch.version == 1 && middling(patch))
         .take(2)
         .map(|patch| patch.to_bytes());
-    let own = [block_a().to_bytes(), empty.to_bytes()];
-    own.into_iter().chain(generated).collect()
+    let marked = edges(10, 1_000).map(|(patch, _)| patch);
+    let marked = marked
+        .filter(|patch| patch.version == 2 && middling(patch) && !marked_set(patch).is_empty())
+        .take(1)
+        .map(|patch| patch.to_bytes());
+    let own = [
+        block_a().to_bytes(),
+        empty.to_bytes(),
+        block_a_marked().to_bytes(),
+    ];
+    own.into_iter().chain(generated).chain(marked).collect()
 }
 
 #[test]
@@ -91,7 +120,7 @@ fn every_single_byte_change_is_a_wrong_sum() {
 
 #[test]
 fn every_sealed_single_byte_change_gets_its_number() {
-    let mut seen = [0; 9];
+    let mut seen = [0; 23];
     for block in good_blocks() {
         for at in 0..508 {
             for more in 1..=255u8 {
@@ -103,10 +132,37 @@ fn every_sealed_single_byte_change_gets_its_number() {
             }
         }
     }
-    for answer in [0, 3, 4, 5, 7, 8] {
+    for answer in [0, 3, 4, 5, 7, 8, 22] {
         assert!(seen[answer] > 100, "{seen:?}");
     }
     assert_eq!(seen[6], 0);
+}
+
+/// The last bytes of block A's rows in version 2, every three of them: a block opens just where each face that goes is marked in
+/// both its rows or in neither.
+#[test]
+fn marks_are_shared_in_every_way() {
+    let fields = with_marked(&block_a(), &[]).to_fields();
+    let between = |marks: [usize; 3]| {
+        // Row n has its face to the row before behind bit 7, and to the row after behind bit 6.
+        (0..3).all(|n| marks[n] >> 2 & 1 == marks[(n + 1) % 3] >> 3 & 1)
+    };
+    let mut opened = 0;
+    for ways in 0..1 << 12 {
+        let marks = [0, 1, 2].map(|n| ways >> (4 * n) & 15);
+        let mut fields = fields;
+        for (n, marks) in marks.into_iter().enumerate() {
+            fields[208 + 5 * n + 4] += (marks << 4) as u8;
+        }
+        let meant = match between(marks) {
+            true => 0,
+            false => answer::MARKS_DISAGREE,
+        };
+        assert_eq!(number(open(&with_sums(&fields))), meant);
+        assert_eq!(expected(&fields), meant);
+        opened += usize::from(meant == 0);
+    }
+    assert_eq!(opened, 1 << 9);
 }
 
 #[test]

@@ -13,10 +13,9 @@ use compare::model::{answer, printout, remove, Patch, Removal, Row};
 fn with_rows(rows: &[[u8; 4]]) -> Patch {
     let mut patch = plate();
     patch.points.extend([[12, 8, 30], [12, 8, 40]]);
-    patch.rows.extend(rows.iter().map(|numbers| Row {
-        numbers: *numbers,
-        region: 0,
-    }));
+    patch
+        .rows
+        .extend(rows.iter().map(|numbers| Row::plain(*numbers, 0)));
     patch
 }
 
@@ -101,10 +100,7 @@ fn length_comes_before_flat_flat_before_room_and_room_before_admissible() {
         .collect();
     let blocked = |flat: bool| {
         let mut patch = chain(5, flat);
-        let rows = ears.iter().map(|numbers| Row {
-            numbers: *numbers,
-            region: 0,
-        });
+        let rows = ears.iter().map(|numbers| Row::plain(*numbers, 0));
         patch.rows.extend(rows);
         patch
     };
@@ -134,10 +130,7 @@ fn room_is_rows_and_m_less_3() {
 fn other_open_cases_and_every_chain_of_a_3_2_flip_get_11() {
     let links = |links: &[[u8; 2]]| {
         let mut patch = chain(3, true);
-        let rows = links.iter().map(|[v, w]| Row {
-            numbers: [0, 1, *v, *w],
-            region: 0,
-        });
+        let rows = links.iter().map(|[v, w]| Row::plain([0, 1, *v, *w], 0));
         patch.rows.extend(rows);
         patch
     };
@@ -173,7 +166,7 @@ fn closed_by_a_flat_row(patch: &Patch, site: &Site) -> Patch {
     let mut closed = patch.clone();
     let numbers = [site.a, site.b, site.v(site.m()), site.v(1)];
     let region = site.region.expect("one region");
-    closed.rows.push(Row { numbers, region });
+    closed.rows.push(Row::plain(numbers, region));
     closed
 }
 

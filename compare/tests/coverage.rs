@@ -2,8 +2,9 @@
 
 mod common;
 
-use common::region_points;
+use common::{mark_points, region_points};
 use compare::gen::cases_at;
+use compare::rivals::{FAULTS, FLIP_FAULTS, OPEN_FAULTS};
 use compare::tally::{Counts, Tally};
 use std::sync::LazyLock;
 use std::thread;
@@ -17,26 +18,26 @@ static TALLY: LazyLock<Tally> = LazyLock::new(|| {
 
 /// The answers each call can get.
 const POSSIBLE: [(&str, &[usize]); 10] = [
-    ("open", &[0, 1, 2, 3, 4, 5, 7, 8]),
-    ("seal", &[0, 1, 3, 4, 5, 7, 8]),
-    ("summary", &[0, 1, 2, 3, 4, 5, 7, 8]),
-    ("shown", &[0, 1, 2, 3, 4, 5, 7, 8]),
+    ("open", &[0, 1, 2, 3, 4, 5, 7, 8, 22]),
+    ("seal", &[0, 1, 3, 4, 5, 7, 8, 22]),
+    ("summary", &[0, 1, 2, 3, 4, 5, 7, 8, 22]),
+    ("shown", &[0, 1, 2, 3, 4, 5, 7, 8, 22]),
     ("remove", &REMOVAL),
     ("page", &REMOVAL),
     ("printout", &REMOVAL),
     (
         "flip 3-2",
-        &[0, 1, 2, 3, 4, 5, 7, 8, 9, 10, 11, 12, 13, 15, 20],
+        &[0, 1, 2, 3, 4, 5, 7, 8, 9, 10, 11, 12, 13, 15, 20, 22, 23],
     ),
     (
         "flip 2-3",
-        &[0, 1, 2, 3, 4, 5, 7, 8, 9, 10, 11, 14, 15, 18, 20],
+        &[0, 1, 2, 3, 4, 5, 7, 8, 9, 10, 11, 14, 15, 18, 20, 22, 23],
     ),
-    ("flip, other count", &[1, 2, 3, 4, 5, 7, 8, 21]),
+    ("flip, other count", &[1, 2, 3, 4, 5, 7, 8, 21, 22]),
 ];
 
-const REMOVAL: [usize; 18] = [
-    0, 1, 2, 3, 4, 5, 7, 8, 9, 10, 11, 12, 13, 14, 15, 16, 19, 20,
+const REMOVAL: [usize; 20] = [
+    0, 1, 2, 3, 4, 5, 7, 8, 9, 10, 11, 12, 13, 14, 15, 16, 19, 20, 22, 23,
 ];
 
 fn holds(name: &str, counts: &Counts, possible: &[usize], least: u64) {
@@ -56,13 +57,23 @@ fn every_call_gets_every_answer_it_can_and_no_other() {
     assert_eq!(TALLY.calls.len(), POSSIBLE.len());
 }
 
+/// Every answer but 3, which is for other versions.
+#[test]
+fn every_call_gets_every_answer_in_version_2() {
+    for (name, possible) in POSSIBLE {
+        let possible: Vec<usize> = possible.iter().copied().filter(|n| *n != 3).collect();
+        holds(name, &TALLY.marked[name], &possible, 10);
+    }
+    assert_eq!(TALLY.marked.len(), POSSIBLE.len());
+}
+
 #[test]
 fn rings_of_every_length_get_every_outcome() {
     for (m, counts) in &TALLY.rings {
         let name = format!("m = {m}");
         match m {
-            3 | 4 => holds(&name, counts, &[0, 15, 16, 20], 100),
-            5..=10 => holds(&name, counts, &[0, 14, 15, 16, 20], 80),
+            3 | 4 => holds(&name, counts, &[0, 15, 16, 20, 23], 100),
+            5..=10 => holds(&name, counts, &[0, 14, 15, 16, 20, 23], 80),
             _ => holds(&name, counts, &[13], 100),
         }
     }
@@ -75,8 +86,8 @@ fn chains_of_every_length_get_every_outcome() {
     for (m, counts) in &TALLY.chains {
         let name = format!("chain, m = {m}");
         match m {
-            3 => holds(&name, counts, &[0, 15, 16, 19, 20], 50),
-            4..=10 => holds(&name, counts, &[0, 14, 15, 16, 19, 20], 30),
+            3 => holds(&name, counts, &[0, 15, 16, 19, 20, 23], 50),
+            4..=10 => holds(&name, counts, &[0, 14, 15, 16, 19, 20, 23], 30),
             _ => holds(&name, counts, &[13], 80),
         }
     }
@@ -98,15 +109,30 @@ fn several_faults_show_the_order_of_the_answers() {
 
 #[test]
 fn every_wrong_kernel_is_told_apart() {
-    for (fault, told) in &TALLY.told {
-        assert!(*told >= 100, "{fault}: {told}");
+    let least = |of_marks: bool| match of_marks {
+        true => 60,
+        false => 100,
+    };
+    let removals = FAULTS.map(|fault| (format!("{fault:?}"), least(fault.is_of_marks())));
+    let flips = FLIP_FAULTS.map(|fault| (format!("{fault:?}"), least(fault.is_of_marks())));
+    let openings = OPEN_FAULTS.map(|fault| (format!("{fault:?}"), least(false)));
+    let all = removals.into_iter().chain(flips).chain(openings);
+    for (fault, least) in all {
+        let told = TALLY.told[&fault];
+        assert!(told >= least, "{fault}: {told}");
     }
+    let count = FAULTS.len() + FLIP_FAULTS.len() + OPEN_FAULTS.len();
+    assert_eq!(TALLY.told.len(), count);
 }
 
 #[test]
 fn every_fine_point_is_seen() {
     for (point, seen) in &TALLY.points {
-        assert!(*seen >= 20, "{point}: {seen}");
+        let least = match point.starts_with("version 2, ") {
+            true => 10,
+            false => 20,
+        };
+        assert!(*seen >= least, "{point}: {seen}");
     }
 }
 
@@ -115,6 +141,14 @@ fn regions_are_shared_in_every_way_and_tested_in_their_place() {
     for name in region_points() {
         let seen = TALLY.points.get(&name).copied().unwrap_or(0);
         assert!(seen >= 20, "{name}: {seen}");
+    }
+}
+
+#[test]
+fn marks_are_kept_passed_on_refused_and_tested_in_their_place() {
+    for name in mark_points() {
+        let seen = TALLY.points.get(&name).copied().unwrap_or(0);
+        assert!(seen >= 10, "{name}: {seen}");
     }
 }
 

@@ -4,7 +4,7 @@
 mod common;
 
 use common::commands::*;
-use compare::model::limits::{BLOCK_BYTES, POINT_COUNT_AT};
+use compare::model::limits::{BLOCK_BYTES, POINT_COUNT_AT, VERSION_AT};
 use compare::vectors::{
     folder, ANSWER_AT, CALLS, CALL_AT, CASES, COUNT_AT, FIGURES_AT, OUTPUT_AT, PRINTOUT,
     RECORD_BYTES, RING_AT,
@@ -16,8 +16,8 @@ use std::fs;
 use std::path::{Path, PathBuf};
 use std::process::{Command, Output};
 
-/// The answers of which a case is counted: 0 to 21.
-const ANSWERS: u8 = 22;
+/// The answers of which a case is counted: 0 to 23.
+const ANSWERS: u8 = 24;
 
 /// The program. It is for x86-64; for other processors the toolchain has an emulator.
 fn program() -> Command {
@@ -90,8 +90,10 @@ fn expected(file: &[u8], disagreeing: &BTreeSet<usize>) -> String {
 }
 
 /// A call, an answer, and which byte of a record of theirs is changed: the two numbers of a 13 become three.
-const DAMAGES: [(&str, u8, usize); 13] = [
+const DAMAGES: [(&str, u8, usize); 17] = [
+    ("open", 0, OUTPUT_AT + VERSION_AT),
     ("open", 0, OUTPUT_AT + POINT_COUNT_AT),
+    ("open", 22, ANSWER_AT),
     ("seal", 0, OUTPUT_AT + BLOCK_BYTES - 1),
     ("seal", 8, ANSWER_AT),
     ("summary", 0, FIGURES_AT),
@@ -99,11 +101,13 @@ const DAMAGES: [(&str, u8, usize); 13] = [
     ("remove", 0, RING_AT),
     ("remove", 19, ANSWER_AT),
     ("remove", 20, OUTPUT_AT),
+    ("remove", 23, OUTPUT_AT),
     ("flip", 0, OUTPUT_AT),
     ("flip", 13, COUNT_AT),
     ("flip", 18, OUTPUT_AT),
     ("flip", 20, ANSWER_AT),
     ("flip", 21, OUTPUT_AT),
+    ("flip", 23, ANSWER_AT),
 ];
 
 /// Changes a byte of each of these, every time in another record, and gives the numbers of the records.

@@ -8,10 +8,18 @@ use compare::gen::cases;
 use compare::model::limits::{BLOCK_BYTES, INPUT_BYTES};
 use compare::model::printout::flip_printout;
 use compare::model::{answer, open, printout, remove, shown, Call, PageRow, Patch, Row, Summary};
+use std::collections::BTreeSet;
 use std::ffi::OsStr;
 use std::fs;
 use std::path::PathBuf;
 use std::sync::Once;
+
+/// The marks that the words at the end of a row's line give it.
+fn marks_of(words: &[&str]) -> [bool; 4] {
+    let faces = ["qrs", "psr", "pqs", "prq"];
+    assert!(words.iter().all(|word| faces.contains(word)), "{words:?}");
+    faces.map(|face| words.contains(&face))
+}
 
 /// The patch of a readable text, by a second reading of it.
 fn patch_of(text: &str) -> Patch {
@@ -20,13 +28,17 @@ fn patch_of(text: &str) -> Patch {
         let line = line.split('#').next().expect("a part before any comment");
         let mut words = line.split_whitespace();
         let word = words.next();
-        let numbers: Vec<u8> = words.map(|word| word.parse().expect("a byte")).collect();
+        let words: Vec<&str> = words.collect();
+        let is_number = |word: &&&str| word.parse::<u8>().is_ok();
+        let (numbers, marks) = words.split_at(words.iter().take_while(is_number).count());
+        let numbers: Vec<u8> = numbers.iter().filter_map(|n| n.parse().ok()).collect();
         match (word, numbers.as_slice()) {
             (None, _) => {}
+            (Some("version"), [version]) => patch.version = *version,
             (Some("point"), [x, y, z]) => patch.points.push([*x, *y, *z]),
             (Some("row"), [p, q, r, s, region]) => patch.rows.push(Row {
-                numbers: [*p, *q, *r, *s],
-                region: *region,
+                marks: marks_of(marks),
+                ..Row::plain([*p, *q, *r, *s], *region)
             }),
             _ => panic!("{line}"),
         }
@@ -35,11 +47,13 @@ fn patch_of(text: &str) -> Patch {
 }
 
 /// The samples with the edge that their texts speak of, and the answer there.
-const SAMPLES: [(&str, u8, u8, u32); 7] = [
+const SAMPLES: [(&str, u8, u8, u32); 9] = [
     ("blade", 0, 1, answer::DONE),
     ("block_a", 0, 1, answer::DONE),
     ("blocked", 0, 1, answer::NOT_ADMISSIBLE),
+    ("glued", 0, 1, answer::DONE),
     ("joint", 0, 1, answer::TWO_REGIONS),
+    ("load", 0, 1, answer::MARK_GOES),
     ("low_apex", 0, 1, answer::NONE_BETTER),
     ("plate", 0, 1, answer::DONE),
     ("sliver", 9, 27, answer::DONE),
@@ -118,9 +132,52 @@ fn the_joint_is_refused_for_its_two_materials_alone() {
     assert_eq!(flip_answer(&one_material, &[0, 1, 2]), answer::DONE);
 }
 
+/// The upper faces are marked before and after, in four new rows and in the one above, and the worst gets better.
+#[test]
+fn the_glued_load_surface_stays_where_it_is() {
+    let glued = open(&sample_block("glued")).expect("it opens");
+    let surface = BTreeSet::from([[0, 2, 3], [0, 3, 4], [0, 4, 5], [0, 2, 5]]);
+    assert_eq!((glued.version, marked_set(&glued)), (2, surface.clone()));
+    let removal = remove(&glued.to_bytes(), 0, 1, &mut UNTOUCHED.clone()).expect("done");
+    assert_eq!(
+        (removal.after.version, marked_set(&removal.after)),
+        (2, surface)
+    );
+    let marks = |row: &Row| row.marks.iter().filter(|mark| **mark).count();
+    let of_new: Vec<usize> = removal.new_rows.iter().map(marks).collect();
+    assert_eq!(of_new, [2, 0, 2, 0]);
+    let [before, after] = [&removal.before, &removal.after].map(Summary::of);
+    assert_eq!((before.upright, after.upright), (5, 5));
+}
+
+/// The load surface is in the way of the removal, and of nothing else there.
+#[test]
+fn the_load_surface_is_refused_for_its_marks_alone() {
+    let load = open(&sample_block("load")).expect("it opens");
+    assert_eq!(marked_set(&load), BTreeSet::from([[0, 1, 2], [0, 1, 4]]));
+    assert_eq!(remove_answer(&load, 0, 1), answer::MARK_GOES);
+    assert_eq!(flip_answer(&load, &[0, 1, 2]), answer::MARK_GOES);
+    assert_eq!(flip_answer(&load, &[0, 1, 3]), answer::DONE);
+    assert_eq!(remove_answer(&with_marked(&load, &[]), 0, 1), answer::DONE);
+}
+
 #[test]
 fn a_text_that_is_wrong_is_told_in_one_line() {
-    for wrong in ["point 1 2", "row 1 2 3 4", "edge 1 2", "point 1 2 256"] {
+    for wrong in [
+        "point 1 2",
+        "row 1 2 3 4",
+        "edge 1 2",
+        "point 1 2 256",
+        "version 3",
+        "version",
+        "row 0 1 2 3 7\nversion 2",
+        "row 0 1 2 3 7 qrs",
+        "version 1\nrow 0 1 2 3 7 qrs",
+        "version 2\nrow 0 1 2 3 16",
+        "version 2\nrow 0 1 2 3 qrs",
+        "version 2\nrow 0 1 2 3 7 qrs rqs",
+        "version 2\nrow 0 1 2 3 7 qrs psr qrs",
+    ] {
         let text = scratch("wrong.txt");
         fs::write(&text, wrong).expect("written");
         let output = run("samples/make", &[text.as_os_str()]);
@@ -207,6 +264,9 @@ fn the_script_prints_the_models_printout_of_a_flip() {
     let joint = sample_block("joint");
     assert_eq!(flip_held(&joint, &[0, 1, 2]), "answer 20\n");
     assert!(flip_held(&joint, &[0, 1, 3]).starts_with("answer 0\n"));
+    let load = sample_block("load");
+    assert_eq!(flip_held(&load, &[0, 1, 2]), "answer 23\n");
+    assert!(flip_held(&load, &[0, 1, 3]).starts_with("answer 0\n"));
     for input in SAMPLES.map(sample_input) {
         let (block, ends) = input.split_at(BLOCK_BYTES);
         flip_held(block, ends);

@@ -2,7 +2,7 @@
 
 mod common;
 
-use common::{d_by_region, total_d};
+use common::{d_by_region, marked_set, total_d};
 use compare::gen::cases;
 use compare::model::mesh::mesh_rule;
 use compare::model::{open, run, summary, Call, Outcome, Patch};
@@ -57,8 +57,9 @@ fn untouched(call: &Call, before: &Patch) -> Patch {
 }
 
 #[test]
-fn a_written_block_keeps_points_kept_rows_mesh_rule_and_total_d_of_each_region() {
+fn a_written_block_keeps_version_points_kept_rows_marks_mesh_rule_and_total_d_of_each_region() {
     let [mut removals, mut edges, mut faces] = [0; 3];
+    let mut marked = [0; 3];
     for case in cases(13, 8_000) {
         let block = match &case.call {
             Call::Remove { block, .. } | Call::Flip { block, .. } => block,
@@ -69,7 +70,11 @@ fn a_written_block_keeps_points_kept_rows_mesh_rule_and_total_d_of_each_region()
         };
         let (before, after) = (open(block).unwrap(), open(&out).unwrap());
         let kept = untouched(&case.call, &before);
-        assert_eq!(after.points, before.points);
+        assert_eq!(
+            (after.version, &after.points),
+            (before.version, &before.points)
+        );
+        assert_eq!(marked_set(&after), marked_set(&before));
         assert_eq!(after.rows[..kept.rows.len()], kept.rows[..]);
         assert!(mesh_rule(&after.rows, after.points.len()));
         assert_eq!(total_d(&after), total_d(&before));
@@ -80,14 +85,28 @@ fn a_written_block_keeps_points_kept_rows_mesh_rule_and_total_d_of_each_region()
             counts.upright + counts.flat + counts.inverted,
             after.rows.len()
         );
+        let has_marks = usize::from(!marked_set(&before).is_empty());
         match &case.call {
-            Call::Flip { numbers, .. } if numbers.len() == 3 => faces += 1,
-            Call::Flip { .. } => edges += 1,
-            _ => removals += 1,
+            Call::Flip { numbers, .. } if numbers.len() == 3 => {
+                faces += 1;
+                marked[2] += has_marks;
+            }
+            Call::Flip { .. } => {
+                edges += 1;
+                marked[1] += has_marks;
+            }
+            _ => {
+                removals += 1;
+                marked[0] += has_marks;
+            }
         }
     }
     assert!(
         removals > 500 && edges > 80 && faces > 200,
         "{removals} {edges} {faces}"
+    );
+    assert!(
+        marked[0] > 100 && marked[1] > 30 && marked[2] > 50,
+        "{marked:?}"
     );
 }

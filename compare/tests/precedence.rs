@@ -7,18 +7,24 @@ use compare::model::block::with_sums;
 use compare::model::{answer, flip, open, seal, Patch, Row};
 
 /// The answers that the fields of a block can get.
-const OF_FIELDS: [u32; 5] = [
+const OF_FIELDS: [u32; 6] = [
     answer::VERSION,
     answer::COUNT,
     answer::NOT_ZERO,
     answer::ROW,
     answer::FACE_TWICE,
+    answer::MARKS_DISAGREE,
 ];
+
+/// Block A in version 2, without a mark.
+fn fields_of_a() -> [u8; 508] {
+    with_marked(&block_a(), &[]).to_fields()
+}
 
 /// One way to spoil the fields of block A for each of them.
 fn spoil(fields: &mut [u8; 508], number: u32) {
     match number {
-        answer::VERSION => fields[0] = 2,
+        answer::VERSION => fields[0] = 3,
         answer::COUNT => fields[2] = 61,
         answer::NOT_ZERO => fields[15] = 1,
         answer::ROW => fields[208] = fields[209],
@@ -26,6 +32,7 @@ fn spoil(fields: &mut [u8; 508], number: u32) {
             let third: [u8; 4] = [0, 1, 4, 2];
             fields[213..217].copy_from_slice(&third);
         }
+        answer::MARKS_DISAGREE => fields[212] |= 64,
         _ => unreachable!("another answer"),
     }
 }
@@ -34,7 +41,7 @@ fn spoil(fields: &mut [u8; 508], number: u32) {
 fn of_two_faults_in_a_block_the_smaller_number_wins() {
     for (at, one) in OF_FIELDS.into_iter().enumerate() {
         for other in OF_FIELDS[at..].iter().copied() {
-            let mut fields = block_a().to_fields();
+            let mut fields = fields_of_a();
             spoil(&mut fields, other);
             spoil(&mut fields, one);
             let mut out = UNTOUCHED;
@@ -49,14 +56,16 @@ fn of_two_faults_in_a_block_the_smaller_number_wins() {
 
 #[test]
 fn a_bad_block_comes_before_bad_numbers_and_a_bad_count_of_them() {
-    let mut fields = block_a().to_fields();
-    spoil(&mut fields, answer::FACE_TWICE);
-    let block = with_sums(&fields);
-    let mut out = UNTOUCHED;
-    let removal = compare::model::remove(&block, 9, 9, &mut out);
-    assert_eq!(removal.err(), Some(answer::FACE_TWICE));
-    for count in 0..6 {
-        assert_eq!(flip(&block, &vec![9; count], &mut out), answer::FACE_TWICE);
+    for number in [answer::FACE_TWICE, answer::MARKS_DISAGREE] {
+        let mut fields = fields_of_a();
+        spoil(&mut fields, number);
+        let block = with_sums(&fields);
+        let mut out = UNTOUCHED;
+        let removal = compare::model::remove(&block, 9, 9, &mut out);
+        assert_eq!(removal.err(), Some(number));
+        for count in 0..6 {
+            assert_eq!(flip(&block, &vec![9; count], &mut out), number);
+        }
     }
 }
 
@@ -64,7 +73,7 @@ fn a_bad_block_comes_before_bad_numbers_and_a_bad_count_of_them() {
 fn a_wrong_count_comes_behind_every_fault_of_a_block() {
     let mut out = UNTOUCHED;
     for number in OF_FIELDS {
-        let mut fields = block_a().to_fields();
+        let mut fields = fields_of_a();
         spoil(&mut fields, number);
         let mut block = with_sums(&fields);
         for numbers in [&[][..], &[0], &[9], &[0, 1, 2, 3], &[0, 1, 2, 9]] {
@@ -198,7 +207,7 @@ fn two_regions_come_before_not_admissible_and_none_better() {
     let mut blocked = block_a();
     blocked.points.push([1, 2, 3]);
     let (numbers, region) = ([5, 2, 3, 4], 7);
-    blocked.rows.push(Row { numbers, region });
+    blocked.rows.push(Row::plain(numbers, region));
     for answer_of in [removed, flipped] {
         assert_eq!(answer_of(&blocked), answer::NOT_ADMISSIBLE);
         in_regions(&blocked, answer::TWO_REGIONS, answer_of);
@@ -208,6 +217,102 @@ fn two_regions_come_before_not_admissible_and_none_better() {
     lower.points[0] = [4, 4, 7];
     assert_eq!(removed(&lower), answer::NONE_BETTER);
     in_regions(&lower, answer::TWO_REGIONS, removed);
+}
+
+/// The answer of a removal, or of a 3-2 flip, whichever face that goes is marked alone.
+#[track_caller]
+fn in_marks(patch: &Patch, number: u32, answer_of: fn(&Patch) -> u32) {
+    let marked = with_one_marked(patch, &[0, 1]);
+    assert!(marked.len() > 1);
+    for patch in marked {
+        assert_eq!(answer_of(&patch), number);
+    }
+}
+
+#[test]
+fn what_is_wrong_with_the_links_comes_before_a_marked_face() {
+    let two = [circle(2, 3), circle(5, 4)].concat();
+    let with_chain = [circle(2, 3), vec![(20, 21)]].concat();
+    let lengths = [circle(2, 2), circle(2, 11), circle(2, 60)];
+    for answer_of in [removed, flipped] {
+        in_marks(&linked(&two), answer::CIRCLES, answer_of);
+        in_marks(&linked(&with_chain), answer::OPEN, answer_of);
+        for length in &lengths {
+            in_marks(&linked(length), answer::RING_LENGTH, answer_of);
+        }
+    }
+    in_marks(&linked(&circle(2, 4)), answer::RING_LENGTH, flipped);
+    let long: Vec<(u8, u8)> = (2..12).map(|v| (v, v + 1)).collect();
+    in_marks(&linked(&long), answer::RING_LENGTH, removed);
+}
+
+#[test]
+fn not_flat_and_two_regions_come_before_a_marked_face() {
+    let mut bent = plate();
+    bent.points[2][2] -= 1;
+    in_marks(&bent, answer::NOT_FLAT, removed);
+    in_marks(&plate(), answer::MARK_GOES, removed);
+    in_marks(&plate(), answer::OPEN, flipped);
+    for answer_of in [removed, flipped] {
+        in_marks(&block_a(), answer::MARK_GOES, answer_of);
+        for joint in in_two_regions(&with_marked(&block_a(), &[]), &[0, 1]) {
+            in_marks(&joint, answer::TWO_REGIONS, answer_of);
+        }
+    }
+    for joint in in_two_regions(&with_marked(&plate(), &[]), &[0, 1]) {
+        in_marks(&joint, answer::TWO_REGIONS, removed);
+    }
+}
+
+#[test]
+fn a_marked_face_comes_before_room() {
+    for m in 5..=10 {
+        let full = filled(linked(&circle(2, m)), 60, m + 2);
+        assert_eq!(removed(&with_marked(&full, &[])), answer::ROOM);
+        in_marks(&full, answer::MARK_GOES, removed);
+    }
+    let mut full = plate();
+    full.points.resize(64, [1, 2, 3]);
+    let full = filled(full, 60, 6);
+    assert_eq!(removed(&with_marked(&full, &[])), answer::ROOM);
+    in_marks(&full, answer::MARK_GOES, removed);
+}
+
+#[test]
+fn a_marked_face_comes_before_not_admissible_and_none_better() {
+    let mut blocked = block_a();
+    blocked.points.push([1, 2, 3]);
+    blocked.rows.push(Row::plain([5, 2, 3, 4], 7));
+    for answer_of in [removed, flipped] {
+        let unmarked = with_marked(&blocked, &[]);
+        assert_eq!(answer_of(&unmarked), answer::NOT_ADMISSIBLE);
+        in_marks(&blocked, answer::MARK_GOES, answer_of);
+    }
+    let mut lower = block_a();
+    lower.points[0] = [4, 4, 7];
+    assert_eq!(removed(&with_marked(&lower, &[])), answer::NONE_BETTER);
+    in_marks(&lower, answer::MARK_GOES, removed);
+}
+
+/// 2-3: 18 and 20 come before 23, 14 and 15 behind it.
+#[test]
+fn a_marked_face_has_the_same_place_in_a_flip_of_it() {
+    let points = vec![[0; 3]; 64];
+    let face = [2, 3, 4];
+    let marked = |patch: &Patch| with_marked(patch, &[[2, 3, 4]]);
+    let answer_of = |patch: &Patch| flip_answer(patch, &face);
+    let one_apex = patch(&points, &[[0, 2, 3, 4], [0, 2, 4, 3]], 0);
+    assert_eq!(answer_of(&marked(&one_apex)), answer::ONE_APEX);
+    for joint in in_two_regions(&with_marked(&block_a_after(), &[]), &[2, 3, 4]) {
+        assert_eq!(answer_of(&marked(&joint)), answer::TWO_REGIONS);
+    }
+    assert_eq!(answer_of(&marked(&block_a_after())), answer::MARK_GOES);
+    let used = patch(&points, &[[0, 2, 3, 4], [1, 2, 4, 3], [0, 1, 3, 6]], 0);
+    assert_eq!(answer_of(&used), answer::NOT_ADMISSIBLE);
+    assert_eq!(answer_of(&marked(&used)), answer::MARK_GOES);
+    let full = filled(used, 60, 7);
+    assert_eq!(answer_of(&full), answer::ROOM);
+    assert_eq!(answer_of(&marked(&full)), answer::MARK_GOES);
 }
 
 #[test]

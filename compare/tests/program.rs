@@ -137,6 +137,28 @@ fn two_regions_print_answer_20() {
 }
 
 #[test]
+fn marks_print_answers_22_and_23_and_no_word_of_their_own() {
+    assert_eq!(printout(&input(&block_a_marked(), 0, 1)), BLOCK_A);
+    assert_eq!(flipped(&block_a_marked(), &[0, 1]), BLOCK_A_FLIPPED);
+    let after = with_marked(&block_a_after(), &BLOCK_A_SHELL);
+    assert_eq!(flipped(&after, &[2, 3, 4]), BLOCK_A_BACK);
+    for marked in with_one_marked(&block_a_marked(), &[0, 1]) {
+        assert_eq!(printout(&input(&marked, 0, 1)), "answer 23\n");
+        assert_eq!(flipped(&marked, &[1, 0]), "answer 23\n");
+    }
+    for marked in with_one_marked(&after, &[2, 3, 4]) {
+        assert_eq!(flipped(&marked, &[4, 2, 3]), "answer 23\n");
+    }
+    let mut apart = with_one_marked(&block_a(), &[0, 1]).swap_remove(0);
+    let rows = apart.rows.iter_mut();
+    let marked = rows.filter(|row| row.marks != [false; 4]).take(1);
+    marked.for_each(|row| row.marks = [false; 4]);
+    assert_eq!(printout(&input(&apart, 0, 1)), "answer 22\n");
+    assert_eq!(flipped(&apart, &[0, 1]), "answer 22\n");
+    assert_eq!(flipped(&apart, &[0]), "answer 22\n");
+}
+
+#[test]
 fn a_refused_flip_prints_one_line() {
     assert_eq!(flipped(&block_a(), &[0, 255]), "answer 9\n");
     assert_eq!(flipped(&block_a(), &[0, 1, 1]), "answer 9\n");

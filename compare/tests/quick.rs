@@ -2,7 +2,7 @@
 
 use compare::gen::cases;
 use compare::model::answer;
-use compare::model::limits::BLOCK_BYTES;
+use compare::model::limits::{BLOCK_BYTES, MARKED, VERSION_AT};
 use compare::model::measure::{score, Corners};
 use compare::model::pieces::Pieces;
 use compare::model::removal::removable_site;
@@ -96,7 +96,7 @@ fn edges(seed: u64, count: u64) -> impl Iterator<Item = (Vec<u8>, [usize; 2], Ve
 fn removals_are_the_same() {
     let bits = |page: PageRow| [page.before.to_bits(), page.after.to_bits()];
     let mut answers = [0; ANSWERS];
-    let mut count = 0;
+    let [mut count, mut marked] = [0; 2];
     for (block, [a, b], out) in edges(22, 10_000) {
         let [mut expected, mut written] = [out.clone(), out];
         let by_model = remove(&block, a, b, &mut expected).map(|removal| bits(removal.page));
@@ -105,12 +105,22 @@ fn removals_are_the_same() {
             by_model
         );
         assert_eq!(written, expected);
-        answers[by_model.err().unwrap_or(answer::DONE) as usize] += 1;
+        let number = by_model.err().unwrap_or(answer::DONE);
+        answers[number as usize] += 1;
         count += 1;
+        marked += usize::from(number == answer::DONE && block[VERSION_AT] == MARKED);
     }
-    assert!(count >= 5000, "{count} removals");
+    assert!(
+        count >= 5000 && marked > 300,
+        "{count} removals, {marked} marked"
+    );
     let met = |number: u32| answers[number as usize] > 0;
-    let behind = [answer::NOT_FLAT, answer::TWO_REGIONS];
+    let behind = [
+        answer::NOT_FLAT,
+        answer::TWO_REGIONS,
+        answer::MARKS_DISAGREE,
+        answer::MARK_GOES,
+    ];
     let before = answer::DONE..=answer::NOT_ZERO;
     let mut possible = before
         .chain(answer::ROW..=answer::NONE_BETTER)

@@ -103,10 +103,7 @@ fn beside_block_a(rows: [Corners; 2]) -> ([u64; 2], [u64; 2]) {
     for corners in rows {
         let at = patch.points.len() as u8;
         patch.points.extend(corners);
-        patch.rows.push(Row {
-            numbers: [at, at + 1, at + 2, at + 3],
-            region: 0,
-        });
+        patch.rows.push(Row::plain([at, at + 1, at + 2, at + 3], 0));
     }
     let shown = shown(&patch.to_bytes()).expect("it opens");
     let page = removal(patch, 0, 1).expect("done").page;

@@ -92,7 +92,7 @@ mod reached {
     use compare::gen::deep_sites;
     use compare::kernel;
     use compare::model::call::calls_on;
-    use compare::model::limits::{BLOCK_BYTES, LONGEST_RING};
+    use compare::model::limits::{BLOCK_BYTES, LONGEST_RING, MARKED, PLAIN};
     use compare::model::ring::{site, Site};
     use compare::model::{answer, open, Call, Patch, Row};
     use std::collections::BTreeSet;
@@ -130,23 +130,47 @@ mod reached {
     fn every_outcome_of_a_removal() {
         let outcomes = [answer::DONE, answer::NOT_ADMISSIBLE, answer::NONE_BETTER];
         for (closed, rows) in [(true, 54), (false, 53)] {
-            let longest = |patch: &Patch, edge: Option<Site>| {
-                patch.rows.len() == rows && has(edge, closed, LONGEST_RING)
-            };
-            assert_eq!(answers(longest, is_remove), BTreeSet::from(outcomes));
+            for version in [PLAIN, MARKED] {
+                let longest = |patch: &Patch, edge: Option<Site>| {
+                    let full = patch.rows.len() == rows && patch.version == version;
+                    full && has(edge, closed, LONGEST_RING)
+                };
+                assert_eq!(answers(longest, is_remove), BTreeSet::from(outcomes));
+            }
         }
     }
 
     #[test]
     fn every_outcome_of_a_flip() {
         let outcomes = BTreeSet::from([answer::DONE, answer::NOT_ADMISSIBLE]);
-        let three =
-            |patch: &Patch, edge: Option<Site>| patch.rows.len() == 60 && has(edge, true, 3);
-        assert_eq!(answers(three, |call| flips(call, 2)), outcomes);
-        let with_room = |patch: &Patch, _: Option<Site>| patch.rows.len() == 59;
-        assert_eq!(answers(with_room, |call| flips(call, 3)), outcomes);
+        for version in [PLAIN, MARKED] {
+            let has_rows =
+                |patch: &Patch, rows: usize| patch.version == version && patch.rows.len() == rows;
+            let three =
+                |patch: &Patch, edge: Option<Site>| has_rows(patch, 60) && has(edge, true, 3);
+            assert_eq!(answers(three, |call| flips(call, 2)), outcomes);
+            let with_room = |patch: &Patch, _: Option<Site>| has_rows(patch, 59);
+            assert_eq!(answers(with_room, |call| flips(call, 3)), outcomes);
+        }
         let refused = BTreeSet::from([answer::NOT_TWO_OR_THREE]);
         assert_eq!(answers(|_, _| true, |call| flips(call, 4)), refused);
+    }
+
+    /// A mark on the shell comes into a new row.
+    #[test]
+    fn marks_are_handed_on() {
+        let marks = |block: &[u8]| {
+            let rows = open(block).expect("it opens").rows;
+            rows.iter().any(|row| row.marks != [false; 4])
+        };
+        let sites = deep_sites().into_iter();
+        let marked = sites.filter(|(block, _)| marks(block));
+        let handed_on = marked.filter(|(block, [a, b, _])| {
+            let mut out = [0; BLOCK_BYTES];
+            kernel::remove(block, [*a, *b], &mut out) == answer::DONE && marks(&out)
+        });
+        let count = handed_on.count();
+        assert!(count > 30, "{count}");
     }
 
     /// The places i, k, j of the triangles of an accepted removal, as they were written.

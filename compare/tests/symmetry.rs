@@ -51,6 +51,7 @@ fn one_worst(patches: [&Patch; 2], shown: [f64; 2]) {
 #[test]
 fn row_order_and_even_rearrangement_change_only_kept_rows() {
     let mut random = Random::of_case(3, 0);
+    let mut marked = 0;
     for (patch, [a, b]) in edges(3, 2_500) {
         let other = rearranged(&patch, &mut random);
         assert_eq!(Summary::of(&patch), Summary::of(&other));
@@ -64,6 +65,8 @@ fn row_order_and_even_rearrangement_change_only_kept_rows() {
             (Ok(one), Ok(two)) => {
                 assert_eq!(one.ring, two.ring);
                 assert_eq!(one.new_rows, two.new_rows);
+                assert_eq!(tetrahedra(&one.after), tetrahedra(&two.after));
+                marked += usize::from(!marked_set(&two.after).is_empty());
                 let pages = [one.page, two.page];
                 one_worst([&one.before, &two.before], pages.map(|page| page.before));
                 one_worst([&one.after, &two.after], pages.map(|page| page.after));
@@ -73,13 +76,14 @@ fn row_order_and_even_rearrangement_change_only_kept_rows() {
             (one, two) => assert_eq!(one.err(), two.err()),
         }
     }
+    assert!(marked > 30, "{marked}");
 }
 
 /// The three numbers of a face in any order, too.
 #[test]
 fn a_flip_writes_the_same_rows_behind_the_kept_ones_whatever_their_order() {
     let mut random = Random::of_case(6, 0);
-    let [mut done, mut refused] = [0; 2];
+    let [mut done, mut refused, mut marked] = [0; 3];
     for case in cases(6, 6_000) {
         let Call::Flip { block, numbers, .. } = &case.call else {
             continue;
@@ -100,10 +104,13 @@ fn a_flip_writes_the_same_rows_behind_the_kept_ones_whatever_their_order() {
             2 => 2,
             _ => 3,
         };
-        assert_eq!(one[one.len() - new..], two[two.len() - new..]);
+        let [one, two] = [one, two].map(|rows| rows[rows.len() - new..].to_vec());
+        assert_eq!(one, two);
+        marked += usize::from(one.iter().any(|row| row.marks != [false; 4]));
         done += 1;
     }
     assert!(done > 200 && refused > 200, "{done} {refused}");
+    assert!(marked > 50, "{marked}");
 }
 
 fn holds(row: &Row, a: usize, b: usize) -> bool {

@@ -66,7 +66,7 @@ int main(void) {
     double page[SUMPNEWT_PAGE_ELEMENTS];
     uint32_t number;
 
-    fields[SUMPNEWT_VERSION_AT] = SUMPNEWT_VERSION;
+    fields[SUMPNEWT_VERSION_AT] = SUMPNEWT_VERSION_PLAIN;
     fields[SUMPNEWT_POINT_COUNT_AT] = sizeof points / sizeof points[0];
     fields[SUMPNEWT_ROW_COUNT_AT] = sizeof rows / sizeof rows[0];
     memcpy(fields + SUMPNEWT_POINTS_AT, points, sizeof points);

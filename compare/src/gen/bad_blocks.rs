@@ -119,8 +119,8 @@ fn over_count(random: &mut Random, fields: &mut Fields) {
 }
 
 fn other_version(random: &mut Random, fields: &mut Fields) {
-    let any = random.within(2..=255) as u8;
-    fields[VERSION_AT] = random.pick(&[0, 2, any]);
+    let any = random.within(3..=255) as u8;
+    fields[VERSION_AT] = random.pick(&[0, 3, any]);
 }
 
 /// A block with one fault, in any call.
@@ -256,7 +256,7 @@ pub fn raw(random: &mut Random) -> (Call, Option<u32>) {
     let mut fields: Fields = std::array::from_fn(|_| random.byte());
     if random.percent(80) {
         fields[..POINTS_AT].fill(0);
-        fields[VERSION_AT] = VERSION;
+        fields[VERSION_AT] = PLAIN;
         fields[POINT_COUNT_AT] = random.within(0..=70) as u8;
         fields[ROW_COUNT_AT] = random.within(0..=64) as u8;
     }

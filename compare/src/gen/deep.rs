@@ -7,7 +7,7 @@ use super::random::Random;
 use super::rings::ring_in_table;
 use super::scene::{chain, circle, Naming, Scene, A, B, FIRST};
 use super::shapes::{from_middle, CIRCLE};
-use super::{cases, faces};
+use super::{cases, faces, shell_marked};
 use crate::model::call::calls_on;
 use crate::model::limits::{LONGEST_RING, MAX_ROWS, SHORTEST_RING};
 use crate::model::{Call, Point};
@@ -52,7 +52,8 @@ fn with_third([a, b]: [usize; 2]) -> [usize; 3] {
     [a, b, 0]
 }
 
-/// Edges and faces in tables as full as their removal or flip allows, and in full ones.
+/// Edges and faces in tables as full as their removal or flip allows, and in full ones: each in version 1, and in version 2 with
+/// marks on the shell.
 pub fn deep_sites() -> Vec<Site> {
     let random = &mut Random::of_case(SEED, 0);
     let mut edges = vec![];
@@ -69,8 +70,15 @@ pub fn deep_sites() -> Vec<Site> {
         edges.push(fan(random, true, at_first));
         edges.push(fan(random, false, at_first));
     }
-    let with_edge = edges.into_iter();
-    sites.extend(with_edge.map(|(block, ends)| (block, with_third(ends))));
+    let marked_faces: Vec<Site> = sites
+        .iter()
+        .map(|(block, face)| (shell_marked(random, block, face), *face))
+        .collect();
+    sites.extend(marked_faces);
+    for (block, ends) in edges {
+        let marked = shell_marked(random, &block, &ends);
+        sites.extend([block, marked].map(|block| (block, with_third(ends))));
+    }
     sites
 }
 

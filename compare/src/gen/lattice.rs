@@ -34,7 +34,7 @@ pub fn lattice(random: &mut Random) -> (Call, Option<u32>) {
             false => other,
         };
         if random.percent(97) {
-            scene.rows.push(Row { numbers, region });
+            scene.rows.push(Row::plain(numbers, region));
         }
     }
     if scene.rows.is_empty() {

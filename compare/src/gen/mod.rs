@@ -8,6 +8,7 @@ mod deep;
 mod edges;
 mod faces;
 mod lattice;
+mod marks;
 mod obstacles;
 mod plates;
 mod random;
@@ -21,6 +22,7 @@ mod templates;
 
 use crate::model::Call;
 pub use deep::{deep_calls, deep_sites};
+pub use marks::{freely_marked, shell_marked};
 pub use random::Random;
 pub use rings::ring_in_table;
 use std::ops::Range;
@@ -64,6 +66,9 @@ const FAMILIES: [Family; 24] = [
     ("raw bytes", 1, bad_blocks::raw),
 ];
 
+/// What tells the numbers by which marks are drawn from those of the rest.
+const MARKS: u64 = 1 << 40;
+
 /// Case number `index` of a seed.
 pub fn case(seed: u64, index: u64) -> Case {
     let mut random = Random::of_case(seed, index);
@@ -87,7 +92,8 @@ fn drawn(mut number: usize) -> Family {
 }
 
 /// The first `count` cases of a seed, each with one more that shows the rows of its block, half of the flips with one of
-/// another count of numbers, and all flips and some removals with one where the rows that would go have several regions.
+/// another count of numbers, and all flips and some removals with one where the rows that would go have several regions. With
+/// some of all these comes one of version 2.
 pub fn cases(seed: u64, count: u64) -> impl Iterator<Item = Case> {
     cases_at(seed, 0..count)
 }
@@ -100,7 +106,14 @@ pub fn cases_at(seed: u64, indices: Range<u64>) -> impl Iterator<Item = Case> {
         let shown = shown::shown(random, &case);
         let other_count = counts::other_count(random, &case);
         let several = regions::several(random, &case);
-        let all = [Some(case), shown, other_count, several];
-        all.into_iter().flatten()
+        let plain = [Some(case), shown, other_count, several];
+        let random = &mut Random::of_case(!seed ^ MARKS, index);
+        let mut all: Vec<Case> = plain.into_iter().flatten().collect();
+        let marked: Vec<Case> = all
+            .iter()
+            .filter_map(|case| marks::marked(random, case))
+            .collect();
+        all.extend(marked);
+        all
     })
 }

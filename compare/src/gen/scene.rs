@@ -2,7 +2,7 @@
 //! `finish` gives every point its number in the block and puts the rows in random order.
 
 use super::random::Random;
-use crate::model::limits::{BLOCK_BYTES, MAX_POINTS};
+use crate::model::limits::{BLOCK_BYTES, MAX_POINTS, PLAIN};
 use crate::model::measure::determinant;
 use crate::model::mesh::{mesh_rule, Numbers, EVEN};
 use crate::model::{Patch, Point, Row};
@@ -61,7 +61,7 @@ impl Scene {
     /// Adds a row of any region.
     pub fn push(&mut self, random: &mut Random, numbers: Numbers) {
         let region = random.byte();
-        self.rows.push(Row { numbers, region });
+        self.rows.push(Row::plain(numbers, region));
     }
 
     /// D of a row.
@@ -84,7 +84,7 @@ impl Scene {
         let region = random.byte();
         for (v, w) in links {
             let numbers = [A, B, *v, *w];
-            self.rows.push(Row { numbers, region });
+            self.rows.push(Row::plain(numbers, region));
         }
     }
 
@@ -109,7 +109,11 @@ impl Scene {
             let renamed = row.numbers.map(|number| names[usize::from(number)]);
             row.numbers = random.pick(&EVEN).map(|place| renamed[place]);
         }
-        let patch = Patch { points, rows };
+        let patch = Patch {
+            version: PLAIN,
+            points,
+            rows,
+        };
         Finished { patch, names }
     }
 }

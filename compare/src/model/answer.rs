@@ -6,7 +6,7 @@ pub const DONE: u32 = 0;
 pub const LENGTH: u32 = 1;
 /// A sum is wrong.
 pub const SUM: u32 = 2;
-/// Version is not 1.
+/// The version is neither 1 nor 2.
 pub const VERSION: u32 = 3;
 /// A count is over its limit.
 pub const COUNT: u32 = 4;
@@ -16,6 +16,8 @@ pub const NOT_ZERO: u32 = 5;
 pub const ROW: u32 = 7;
 /// A directed face stands in two rows.
 pub const FACE_TWICE: u32 = 8;
+/// A face stands in two rows, in one of them marked and in the other not. Tested directly after 8.
+pub const MARKS_DISAGREE: u32 = 22;
 /// Edge or face number not below the point count, or equal to another.
 pub const BAD_NUMBER: u32 = 9;
 /// No row holds the edge or face.
@@ -38,5 +40,7 @@ pub const ONE_APEX: u32 = 18;
 pub const NOT_FLAT: u32 = 19;
 /// The rows that would go have more than one region. Tested after 13, 18 and 19, before 14.
 pub const TWO_REGIONS: u32 = 20;
-/// Flip only: neither two numbers nor three. Tested between 8 and 9.
+/// A marked face would go. Tested directly after 20.
+pub const MARK_GOES: u32 = 23;
+/// Flip only: neither two numbers nor three. Tested between 22 and 9.
 pub const NOT_TWO_OR_THREE: u32 = 21;

@@ -3,11 +3,13 @@
 use super::answer;
 use super::limits::*;
 use super::measure::{Corners, Point};
-use super::mesh::{a_face_stands_twice, numbers_are_good, Row};
+use super::mesh::{a_face_stands_twice, marks_disagree, numbers_are_good, Row};
 
 /// The fields of a block.
 #[derive(Clone, Debug, PartialEq, Eq)]
 pub struct Patch {
+    /// 1, or 2 with marks.
+    pub version: u8,
     pub points: Vec<Point>,
     pub rows: Vec<Row>,
 }
@@ -21,7 +23,7 @@ impl Patch {
     /// The first 508 bytes. "Bytes of points and rows beyond the counts are zero."
     pub fn to_fields(&self) -> [u8; FIELD_BYTES] {
         let mut fields = [0; FIELD_BYTES];
-        fields[VERSION_AT] = VERSION;
+        fields[VERSION_AT] = self.version;
         fields[POINT_COUNT_AT] = self.points.len() as u8;
         fields[ROW_COUNT_AT] = self.rows.len() as u8;
         for (number, point) in self.points.iter().enumerate() {
@@ -31,7 +33,7 @@ impl Patch {
         for (index, row) in self.rows.iter().enumerate() {
             let at = ROWS_AT + ROW_BYTES * index;
             fields[at..at + 4].copy_from_slice(&row.numbers);
-            fields[at + 4] = row.region;
+            fields[at + 4] = region_byte(self.version, row);
         }
         fields
     }
@@ -39,6 +41,35 @@ impl Patch {
     /// The whole block, with its sums.
     pub fn to_bytes(&self) -> [u8; BLOCK_BYTES] {
         with_sums(&self.to_fields())
+    }
+}
+
+/// The last byte of a row.
+fn region_byte(version: u8, row: &Row) -> u8 {
+    let marked = MARK_BITS.into_iter().zip(row.marks).filter(|(_, on)| *on);
+    let marks: u8 = marked.map(|(bit, _)| bit).sum();
+    match version {
+        PLAIN => {
+            assert_eq!(marks, 0, "version 1 has no marks");
+            row.region
+        }
+        _ => {
+            assert!(row.region <= REGION_BITS, "a region of version 2");
+            row.region + marks
+        }
+    }
+}
+
+/// A row of a block of this version.
+pub fn row_of(version: u8, bytes: &[u8]) -> Row {
+    let numbers = [bytes[0], bytes[1], bytes[2], bytes[3]];
+    match version {
+        PLAIN => Row::plain(numbers, bytes[4]),
+        _ => Row {
+            numbers,
+            region: bytes[4] & REGION_BITS,
+            marks: MARK_BITS.map(|bit| bytes[4] & bit != 0),
+        },
     }
 }
 
@@ -63,7 +94,7 @@ pub fn with_sums(fields: &[u8; FIELD_BYTES]) -> [u8; BLOCK_BYTES] {
     block
 }
 
-/// Opens a block: its fields, or the first of the answers 1 to 8.
+/// Opens a block: its fields, or the first of the answers 1 to 8 and 22.
 pub fn open(block: &[u8]) -> Result<Patch, u32> {
     let Ok(block): Result<&[u8; BLOCK_BYTES], _> = block.try_into() else {
         return Err(answer::LENGTH);
@@ -75,7 +106,7 @@ pub fn open(block: &[u8]) -> Result<Patch, u32> {
     read(fields)
 }
 
-/// "Sealing takes the first 508 bytes and writes the block, or refuses with 1 or 3 to 8."
+/// "Sealing takes the first 508 bytes and writes the block, or refuses with 1 or 3 to 8", or 22.
 pub fn seal(fields: &[u8], out: &mut [u8]) -> u32 {
     let Ok(fields): Result<&[u8; FIELD_BYTES], _> = fields.try_into() else {
         return answer::LENGTH;
@@ -92,9 +123,10 @@ pub fn seal(fields: &[u8], out: &mut [u8]) -> u32 {
     }
 }
 
-/// The fields in the first 508 bytes, or the first of the answers 3 to 8.
+/// The fields in the first 508 bytes, or the first of the answers 3 to 8 and 22.
 fn read(fields: &[u8; FIELD_BYTES]) -> Result<Patch, u32> {
-    if fields[VERSION_AT] != VERSION {
+    let version = fields[VERSION_AT];
+    if ![PLAIN, MARKED].contains(&version) {
         return Err(answer::VERSION);
     }
     let point_count = usize::from(fields[POINT_COUNT_AT]);
@@ -118,10 +150,7 @@ fn read(fields: &[u8; FIELD_BYTES]) -> Result<Patch, u32> {
         .collect();
     let rows: Vec<Row> = fields[ROWS_AT..rows_end]
         .chunks_exact(ROW_BYTES)
-        .map(|bytes| Row {
-            numbers: [bytes[0], bytes[1], bytes[2], bytes[3]],
-            region: bytes[4],
-        })
+        .map(|bytes| row_of(version, bytes))
         .collect();
     if !rows
         .iter()
@@ -132,5 +161,12 @@ fn read(fields: &[u8; FIELD_BYTES]) -> Result<Patch, u32> {
     if a_face_stands_twice(&rows) {
         return Err(answer::FACE_TWICE);
     }
-    Ok(Patch { points, rows })
+    if marks_disagree(&rows) {
+        return Err(answer::MARKS_DISAGREE);
+    }
+    Ok(Patch {
+        version,
+        points,
+        rows,
+    })
 }

@@ -3,7 +3,9 @@
 use super::answer;
 use super::block::{open, Patch};
 use super::limits::{BLOCK_BYTES, MAX_ROWS, SHORTEST_RING};
-use super::mesh::{even_arrangements, mesh_rule, region_of, Numbers, Row};
+use super::mesh::{
+    a_marked_face_holds, even_arrangements, mesh_rule, new_row, region_of, Numbers, Row,
+};
 use super::pieces::ring_admissible;
 use super::ring::site;
 use super::triangulations::{new_rows, ways};
@@ -31,7 +33,7 @@ fn flipped(patch: &Patch, numbers: &[usize]) -> Result<Patch, u32> {
     }
 }
 
-/// "3-2: removal of an edge with m = 3", of a ring alone: answers 9 to 13, 20 and 15. The table gets one row shorter, so
+/// "3-2: removal of an edge with m = 3", of a ring alone: answers 9 to 13, 20, 23 and 15. The table gets one row shorter, so
 /// 14 never comes.
 fn three_to_two(patch: &Patch, a: usize, b: usize) -> Result<Patch, u32> {
     let site = site(patch, a, b)?;
@@ -44,6 +46,9 @@ fn three_to_two(patch: &Patch, a: usize, b: usize) -> Result<Patch, u32> {
     if site.region.is_none() {
         return Err(answer::TWO_REGIONS);
     }
+    if site.a_mark_goes() {
+        return Err(answer::MARK_GOES);
+    }
     let [only_way] = ways(1, SHORTEST_RING) else {
         unreachable!("three points have one triangle");
     };
@@ -53,7 +58,7 @@ fn three_to_two(patch: &Patch, a: usize, b: usize) -> Result<Patch, u32> {
     Ok(site.patch_after(patch, &new_rows(&site, only_way)))
 }
 
-/// "2-3: a face u,v,w in two rows": answers 9, 10, 11, 18, 20, 14 and 15.
+/// "2-3: a face u,v,w in two rows": answers 9, 10, 11, 18, 20, 23, 14 and 15.
 fn two_to_three(patch: &Patch, face: [usize; 3]) -> Result<Patch, u32> {
     let count = patch.points.len();
     let [x, y, z] = face;
@@ -75,6 +80,9 @@ fn two_to_three(patch: &Patch, face: [usize; 3]) -> Result<Patch, u32> {
     let Some(region) = region_of(&going) else {
         return Err(answer::TWO_REGIONS);
     };
+    if a_marked_face_holds(&going, &face) {
+        return Err(answer::MARK_GOES);
+    }
     if kept.len() + 3 > MAX_ROWS {
         return Err(answer::ROOM);
     }
@@ -82,14 +90,14 @@ fn two_to_three(patch: &Patch, face: [usize; 3]) -> Result<Patch, u32> {
         true => (first_apex, second_apex, first),
         false => (second_apex, first_apex, second),
     };
-    let mut rows = kept;
-    for numbers in three_rows(a, b, row_of_a.numbers, face) {
-        rows.push(Row { numbers, region });
-    }
+    let new = three_rows(a, b, row_of_a.numbers, face);
+    let new = new.map(|numbers| new_row(numbers, region, &going, &kept));
+    let rows = [&kept[..], &new].concat();
     if !mesh_rule(&rows, count) {
         return Err(answer::NOT_ADMISSIBLE);
     }
     Ok(Patch {
+        version: patch.version,
         points: patch.points.clone(),
         rows,
     })

@@ -7,8 +7,10 @@ pub const FIELD_BYTES: usize = 508;
 /// "The program takes 514 bytes on standard input: a block, then the two ends."
 pub const INPUT_BYTES: usize = BLOCK_BYTES + 2;
 
-/// Byte 0: "version, 1".
-pub const VERSION: u8 = 1;
+/// Byte 0 of a block whose rows have a region of 0 to 255 and no marks.
+pub const PLAIN: u8 = 1;
+/// Byte 0 of a block whose rows have a region of 0 to 15 and a mark for each face.
+pub const MARKED: u8 = 2;
 /// Byte 0 is the version.
 pub const VERSION_AT: usize = 0;
 /// Byte 1: "points".
@@ -23,8 +25,12 @@ pub const POINTS_AT: usize = 16;
 pub const POINT_BYTES: usize = 3;
 /// "208 to 507: 60 rows of 5 bytes".
 pub const ROWS_AT: usize = 208;
-/// A row is "four point numbers, then the region".
+/// A row is "four point numbers, then the region", in version 2 with the marks of its faces.
 pub const ROW_BYTES: usize = 5;
+/// The bits of the region in the last byte of a row of version 2.
+pub const REGION_BITS: u8 = 15;
+/// The bit there of the mark of each face of a row (p,q,r,s): (q,r,s), (p,s,r), (p,q,s), (p,r,q).
+pub const MARK_BITS: [u8; 4] = [16, 32, 64, 128];
 
 /// "points, 0 to 64".
 pub const MAX_POINTS: usize = 64;

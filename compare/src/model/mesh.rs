@@ -7,14 +7,41 @@ pub type Numbers = [u8; 4];
 /// Three point numbers with a direction; turning them round in a circle gives the same face.
 pub type Face = [u8; 3];
 
-/// "four point numbers, then the region".
+/// "four point numbers, then the region", and the mark of each face in the order of `faces`: none in version 1.
 #[derive(Clone, Copy, Debug, PartialEq, Eq, PartialOrd, Ord, Hash)]
 pub struct Row {
     pub numbers: Numbers,
     pub region: u8,
+    pub marks: [bool; 4],
 }
 
 impl Row {
+    /// A row without a mark.
+    pub fn plain(numbers: Numbers, region: u8) -> Row {
+        Row {
+            numbers,
+            region,
+            marks: [false; 4],
+        }
+    }
+
+    /// The row with its places in another order, each mark beside the number that its face lies opposite to.
+    pub fn arranged(&self, places: [usize; 4]) -> Row {
+        Row {
+            numbers: places.map(|place| self.numbers[place]),
+            region: self.region,
+            marks: places.map(|place| self.marks[place]),
+        }
+    }
+
+    /// The directed faces of the row that are marked.
+    pub fn marked_faces(&self) -> impl Iterator<Item = Face> {
+        let with_marks = faces(self.numbers).into_iter().zip(self.marks);
+        with_marks
+            .filter(|(_, marked)| *marked)
+            .map(|(face, _)| face)
+    }
+
     /// Does the row hold all of these points?
     pub fn holds(&self, points: &[u8]) -> bool {
         points.iter().all(|point| self.numbers.contains(point))
@@ -61,6 +88,50 @@ pub fn turned([p, q, r]: Face) -> Face {
         [q, r, p]
     } else {
         [r, p, q]
+    }
+}
+
+/// The same three points in the other direction.
+pub fn back([p, q, r]: Face) -> Face {
+    [p, r, q]
+}
+
+/// The mark that a directed face has in these rows, if it stands in one of them.
+pub fn mark_of(rows: &[Row], face: Face) -> Option<bool> {
+    let in_row = |row: &Row| {
+        let with_marks = faces(row.numbers).into_iter().zip(row.marks);
+        let mut same = with_marks.filter(|(own, _)| turned(*own) == turned(face));
+        same.next().map(|(_, marked)| marked)
+    };
+    let mut holding = rows.iter().filter(|row| row.holds(&face));
+    holding.find_map(in_row)
+}
+
+/// Does a face stand in two rows, marked in one and not in the other? In a table that keeps the mesh rule the two have it in
+/// opposite directions.
+pub fn marks_disagree(rows: &[Row]) -> bool {
+    let mut marked = rows.iter().flat_map(Row::marked_faces);
+    marked.any(|face| mark_of(rows, back(face)) == Some(false))
+}
+
+/// Is a face of these rows marked that holds all of these points?
+pub fn a_marked_face_holds(rows: &[Row], points: &[u8]) -> bool {
+    let mut marked = rows.iter().flat_map(Row::marked_faces);
+    marked.any(|face| points.iter().all(|point| face.contains(point)))
+}
+
+/// A new row in the place of removed ones: a face that a removed row has takes that row's mark; one that a kept row has the
+/// other way round takes the kept row's; every other face has none.
+pub fn new_row(numbers: Numbers, region: u8, removed: &[Row], kept: &[Row]) -> Row {
+    let marks = faces(numbers).map(|face| {
+        let of_removed = mark_of(removed, face);
+        let of_kept = mark_of(kept, back(face));
+        of_removed.or(of_kept).unwrap_or(false)
+    });
+    Row {
+        numbers,
+        region,
+        marks,
     }
 }
 

@@ -8,10 +8,12 @@ use super::ring::Site;
 use super::triangulations::{diagonals, new_rows, rows_of, ways, Triangle, Triangulation};
 use std::collections::{HashMap, HashSet};
 
-/// "It is admissible if the whole table afterwards keeps the mesh rule."
+/// "It is admissible if the whole table afterwards keeps the mesh rule", which asks for numbers only.
 pub fn ring_admissible(patch: &Patch, site: &Site, way: &[Triangle]) -> bool {
-    let after = site.patch_after(patch, &new_rows(site, way));
-    mesh_rule(&after.rows, after.points.len())
+    let new = new_rows(site, way);
+    let new = new.into_iter().map(|numbers| Row::plain(numbers, 0));
+    let after: Vec<Row> = site.kept.iter().copied().chain(new).collect();
+    mesh_rule(&after, patch.points.len())
 }
 
 /// "A triangulation of a piece is admissible if no kept row uses one of its triangles, or a face of

@@ -1,4 +1,4 @@
-//! Removal of one edge: answers 1 to 16, 19 and 20.
+//! Removal of one edge: answers 1 to 16, 19, 20, 22 and 23.
 
 use super::answer;
 use super::block::{open, Patch};
@@ -31,7 +31,7 @@ pub fn remove(block: &[u8], a: usize, b: usize, out: &mut [u8]) -> Result<Remova
     Ok(removal)
 }
 
-/// The removal from an opened patch: answers 9 to 16, 19 and 20.
+/// The removal from an opened patch: answers 9 to 16, 19, 20 and 23.
 pub fn removal(before: Patch, a: usize, b: usize) -> Result<Removal, u32> {
     let site = removable_site(&before, a, b)?;
     let pieces = Pieces::of(&before, &site);
@@ -55,7 +55,7 @@ pub fn removal(before: Patch, a: usize, b: usize) -> Result<Removal, u32> {
     })
 }
 
-/// The site of the edge, or the first of the answers 9 to 13, 19, 20 and 14.
+/// The site of the edge, or the first of the answers 9 to 13, 19, 20, 23 and 14.
 pub fn removable_site(patch: &Patch, a: usize, b: usize) -> Result<Site, u32> {
     let site = site(patch, a, b)?;
     if !(SHORTEST_RING..=LONGEST_RING).contains(&site.m()) {
@@ -66,6 +66,9 @@ pub fn removable_site(patch: &Patch, a: usize, b: usize) -> Result<Site, u32> {
     }
     if site.region.is_none() {
         return Err(answer::TWO_REGIONS);
+    }
+    if site.a_mark_goes() {
+        return Err(answer::MARK_GOES);
     }
     let triangles = site.m() - 2;
     if site.kept.len() + 2 * triangles > MAX_ROWS {

@@ -2,7 +2,7 @@
 
 use super::answer;
 use super::block::Patch;
-use super::mesh::{even_arrangements, region_of, Numbers, Row};
+use super::mesh::{a_marked_face_holds, even_arrangements, new_row, region_of, Numbers, Row};
 
 /// "Each row holding both is rearranged evenly as (a,b,v,w) and gives a link v to w."
 #[derive(Clone, Copy, Debug, PartialEq, Eq)]
@@ -40,17 +40,26 @@ impl Site {
         self.ring[i - 1]
     }
 
-    /// "The new block has the kept rows in order. Then come the new rows"; "points stay". The site has one region.
+    /// "The new block has the kept rows in order. Then come the new rows"; "points stay", and so does the version. The site
+    /// has one region.
     pub fn patch_after(&self, patch: &Patch, new: &[Numbers]) -> Patch {
         let region = self.region.expect("the removed rows have one region");
-        let new = new.iter().map(|numbers| Row {
-            numbers: *numbers,
-            region,
-        });
+        let row = |numbers: &Numbers| new_row(*numbers, region, &self.removed, &self.kept);
         Patch {
+            version: patch.version,
             points: patch.points.clone(),
-            rows: self.kept.iter().copied().chain(new).collect(),
+            rows: self
+                .kept
+                .iter()
+                .copied()
+                .chain(new.iter().map(row))
+                .collect(),
         }
+    }
+
+    /// Would a marked face go? Those with a and b do, of a chain its two end faces with them.
+    pub fn a_mark_goes(&self) -> bool {
+        a_marked_face_holds(&self.removed, &[self.a, self.b])
     }
 }
 

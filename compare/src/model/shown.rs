@@ -4,7 +4,7 @@ use super::block::{open, Patch};
 use super::measure::{Quality, Shown};
 use super::mesh::Row;
 
-/// The shown quality of each row of a block with its sign, or why it does not open (1 to 8).
+/// The shown quality of each row of a block with its sign, or why it does not open (1 to 8 and 22).
 pub fn shown(block: &[u8]) -> Result<Vec<f64>, u32> {
     let patch = open(block)?;
     Ok(patch

@@ -14,7 +14,7 @@ pub struct Summary {
     pub octave: Option<u32>,
 }
 
-/// The summary of a block, or why it does not open (1 to 8).
+/// The summary of a block, or why it does not open (1 to 8 and 22).
 pub fn summary(block: &[u8]) -> Result<Summary, u32> {
     Ok(Summary::of(&open(block)?))
 }

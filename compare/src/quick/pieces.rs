@@ -1,6 +1,6 @@
 //! The table of pieces: the best worst and the apex of every piece of a ring or a chain, from the smaller to the larger.
 
-use super::block::{key, numbers, Fields, RowBytes};
+use super::block::{key, numbers, Fields, RowBytes, FIRST_MARK, REGION_AT};
 use super::measure::Quality;
 use super::ring::Ring;
 use crate::model::limits::{LONGEST_RING, MAX_ROWS};
@@ -65,15 +65,29 @@ pub fn fill(fields: Fields, a: u8, b: u8, found: &Ring) -> Pieces {
 
 /// Whether a row has the directed face. No row round the edge of a chain holds both v1 and vm.
 fn stands(rows: &[RowBytes], face: [u8; 3]) -> bool {
+    place_of(rows, face).is_some()
+}
+
+/// Whether a row has the directed face and has it marked.
+pub fn stands_marked(fields: Fields, face: [u8; 3]) -> bool {
+    place_of(fields.rows, face).is_some_and(|(row, place)| {
+        let marks = (row[REGION_AT] & !fields.region_bits) >> FIRST_MARK;
+        marks >> place & 1 == 1
+    })
+}
+
+/// The row that has the directed face, and the face's place in it.
+fn place_of(rows: &[RowBytes], face: [u8; 3]) -> Option<(&RowBytes, usize)> {
     let sought = set(&face);
     let turned = key(face);
     let mut holding = rows
         .iter()
-        .map(numbers)
-        .filter(|row| set(row) & sought == sought);
-    holding.any(|[p, q, r, s]| {
+        .filter(|row| set(&numbers(row)) & sought == sought);
+    holding.find_map(|row| {
+        let [p, q, r, s] = numbers(row);
         let faces = [[q, r, s], [p, s, r], [p, q, s], [p, r, q]];
-        faces.into_iter().any(|face| key(face) == turned)
+        let place = faces.into_iter().position(|face| key(face) == turned)?;
+        Some((row, place))
     })
 }
 

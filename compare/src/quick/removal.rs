@@ -1,8 +1,8 @@
-//! Removal of one edge: answers 1 to 16, 19 and 20, the page row and the block afterwards.
+//! Removal of one edge: answers 1 to 16, 19, 20, 22 and 23, the page row and the block afterwards.
 
-use super::block::{numbers, opened, seal, Fields, RowBytes};
+use super::block::{numbers, opened, seal, Fields, RowBytes, FIRST_MARK};
 use super::measure::{volume, Quality};
-use super::pieces::{fill, Pieces};
+use super::pieces::{fill, stands_marked, Pieces};
 use super::ring::Ring;
 use crate::model::answer;
 use crate::model::limits::*;
@@ -20,7 +20,7 @@ struct Site<'a> {
 }
 
 impl<'a> Site<'a> {
-    /// The site of the edge between two points, or the first of the answers 2 to 13 and 19.
+    /// The site of the edge between two points, or the first of the answers 2 to 13, 19 and 22.
     fn of(block: &'a [u8; BLOCK_BYTES], end: usize, other_end: usize) -> Result<Site<'a>, u32> {
         let fields = opened(block)?;
         let count = fields.points.len();
@@ -28,7 +28,7 @@ impl<'a> Site<'a> {
             return Err(answer::BAD_NUMBER);
         }
         let (a, b) = (end.min(other_end) as u8, end.max(other_end) as u8);
-        let ring = Ring::find(fields.rows, a, b)?;
+        let ring = Ring::find(fields, a, b)?;
         let site = Site { fields, a, b, ring };
         match site.ring.closed || site.is_flat() {
             true => Ok(site),
@@ -41,6 +41,48 @@ impl<'a> Site<'a> {
         let ring = self.ring.points();
         let outer = [self.a, self.b, ring[0], ring[ring.len() - 1]];
         volume(outer.map(|number| self.fields.points[usize::from(number)])) == 0
+    }
+}
+
+/// The last bytes of new rows: the region, and the marks of the shell round the edge.
+struct Shell {
+    region: u8,
+    /// The points whose link to the next has a marked face with a, and with b.
+    marked: [u64; 2],
+    /// Whether the faces of the side from vm to v1 are marked.
+    closing: [bool; 2],
+}
+
+impl Shell {
+    /// The faces of a chain's closing side are marked if they are in the row across.
+    fn of(site: &Site, region: u8) -> Shell {
+        let Site { fields, a, b, ring } = site;
+        let points = ring.points();
+        let (v1, vm) = (points[0], points[points.len() - 1]);
+        let closing = match ring.closed {
+            true => ring.marked.map(|marked| marked >> vm & 1 == 1),
+            false => [[*a, vm, v1], [*b, v1, vm]].map(|face| stands_marked(*fields, face)),
+        };
+        Shell {
+            region,
+            marked: ring.marked,
+            closing,
+        }
+    }
+
+    /// The last bytes of the a-row and the b-row of a triangle.
+    fn bytes(&self, ring: &[u8], [i, k, j]: [usize; 3]) -> [u8; 2] {
+        let whole = i == 0 && j == ring.len() - 1;
+        let of_end = |end: usize| {
+            let side =
+                |from: usize, to: usize| to == from + 1 && self.marked[end] >> ring[from] & 1 == 1;
+            let opposite = [side(k, j), whole && self.closing[end], side(i, k)];
+            let bits = opposite.map(u8::from);
+            bits[0] | bits[1] << 1 | bits[2] << 2
+        };
+        // In a's row the triangle lies opposite to the first number, in b's to the last.
+        let marks = [of_end(0) << 1, of_end(1)];
+        marks.map(|marks| self.region | marks << FIRST_MARK)
     }
 }
 
@@ -66,15 +108,16 @@ impl<const MOST: usize> Rows<MOST> {
     }
 
     /// The two rows of the triangle of piece (i,j), then those of the piece (i,k), then of (k,j).
-    fn push_piece(&mut self, site: &Site, region: u8, pieces: &Pieces, i: usize, j: usize) {
+    fn push_piece(&mut self, site: &Site, shell: &Shell, pieces: &Pieces, i: usize, j: usize) {
         let Some(best) = pieces[i][j] else { return };
         let k = usize::from(best.apex);
         let ring = site.ring.points();
         let (x, y, z) = (ring[i], ring[k], ring[j]);
-        self.push([site.a, x, y, z, region]);
-        self.push([x, y, z, site.b, region]);
-        self.push_piece(site, region, pieces, i, k);
-        self.push_piece(site, region, pieces, k, j);
+        let [of_a, of_b] = shell.bytes(ring, [i, k, j]);
+        self.push([site.a, x, y, z, of_a]);
+        self.push([x, y, z, site.b, of_b]);
+        self.push_piece(site, shell, pieces, i, k);
+        self.push_piece(site, shell, pieces, k, j);
     }
 
     fn worst(&self, fields: Fields) -> Quality {
@@ -97,6 +140,9 @@ pub fn remove(block: &[u8], end: usize, other_end: usize, out: &mut [u8]) -> Res
     let Some(region) = site.ring.region else {
         return Err(answer::TWO_REGIONS);
     };
+    if site.ring.mark_goes {
+        return Err(answer::MARK_GOES);
+    }
     let m = site.ring.points().len();
     let going = match site.ring.closed {
         true => m,
@@ -122,7 +168,7 @@ pub fn remove(block: &[u8], end: usize, other_end: usize, out: &mut [u8]) -> Res
         return Err(answer::NONE_BETTER);
     }
     let mut new = Rows::<MOST_NEW_ROWS>::NONE;
-    new.push_piece(&site, region, &pieces, 0, m - 1);
+    new.push_piece(&site, &Shell::of(&site, region), &pieces, 0, m - 1);
     write(block, kept.all(), new.all(), out);
     let [worst_before, worst_kept] = worsts(fields, a, b);
     Ok(PageRow {

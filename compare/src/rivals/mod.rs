@@ -5,16 +5,21 @@
 //! cases can tell that wrong kernel from a right one.
 
 mod flips;
+mod marks;
+mod opening;
 mod order;
 mod regions;
 mod table;
 
 use crate::model::limits::{LONGEST_RING, MAX_ROWS, SHORTEST_RING};
+use crate::model::mesh::marks_disagree;
 use crate::model::{answer, Patch, Quality, Row};
+use marks::{halves_swapped, version_after, Round};
 use regions::{sees_several, Compared};
 use table::Table;
 
 pub use flips::{faulty_flip, FlipFault, FLIP_FAULTS};
+pub use opening::{faulty_open, OpenFault, OPEN_FAULTS};
 pub use order::whole_part_order;
 
 /// What a rival gets wrong.
@@ -62,10 +67,33 @@ pub enum Fault {
     ForgetsClosingFaces,
     ForgetsClosingFaceOfB,
     ClosingFacesEitherWay,
+    /// As if every removed row stood as (a,b,v,w).
+    ReadsMarksByFixedPlace,
+    ReadsMarksFromLowBits,
+    DropsShellMarks,
+    /// The new rows of a get those of b's faces, and the other way round.
+    SwapsMarksOfEnds,
+    ForgetsMarksOfKeptRows,
+    LetsMarkedFacesGo,
+    LetsEndFacesGo,
+    LooksAtMarksOfFirstRow,
+    RefusesMarkedShells,
+    ComparesRegionsWithMarks,
+    TestsMarksBeforeRegions,
+    TestsMarksAfterRoom,
+    TestsMarksLast,
+    WritesVersion1,
+}
+
+impl Fault {
+    /// Whether only blocks of version 2 tell it.
+    pub fn is_of_marks(self) -> bool {
+        self as usize >= Fault::ReadsMarksByFixedPlace as usize
+    }
 }
 
 /// Every wrong kernel.
-pub const FAULTS: [Fault; 39] = [
+pub const FAULTS: [Fault; 53] = [
     Fault::ComparesRounded,
     Fault::IgnoresTheSign,
     Fault::RefusesCoordinatesOver128,
@@ -105,10 +133,31 @@ pub const FAULTS: [Fault; 39] = [
     Fault::ForgetsClosingFaces,
     Fault::ForgetsClosingFaceOfB,
     Fault::ClosingFacesEitherWay,
+    Fault::ReadsMarksByFixedPlace,
+    Fault::ReadsMarksFromLowBits,
+    Fault::DropsShellMarks,
+    Fault::SwapsMarksOfEnds,
+    Fault::ForgetsMarksOfKeptRows,
+    Fault::LetsMarkedFacesGo,
+    Fault::LetsEndFacesGo,
+    Fault::LooksAtMarksOfFirstRow,
+    Fault::RefusesMarkedShells,
+    Fault::ComparesRegionsWithMarks,
+    Fault::TestsMarksBeforeRegions,
+    Fault::TestsMarksAfterRoom,
+    Fault::TestsMarksLast,
+    Fault::WritesVersion1,
 ];
 
-/// The patch after the removal, or the answer: 9 to 16, 19 and 20.
+/// The patch after the removal, or the answer: 9 to 16, 19, 20 and 23.
 pub fn removal(patch: &Patch, ends: [usize; 2], fault: Fault) -> Result<Patch, u32> {
+    if fault == Fault::ReadsMarksFromLowBits {
+        let swapped = halves_swapped(patch);
+        return match marks_disagree(&swapped.rows) {
+            true => Err(answer::MARKS_DISAGREE),
+            false => removal(&swapped, ends, Fault::None).map(|after| halves_swapped(&after)),
+        };
+    }
     let far = patch.points.iter().flatten().any(|c| *c > 128);
     if far && fault == Fault::RefusesCoordinatesOver128 {
         return Err(6);
@@ -128,6 +177,16 @@ pub fn removal(patch: &Patch, ends: [usize; 2], fault: Fault) -> Result<Patch, u
     let kept: Vec<Row> = pick(patch, &hit, false);
     let removed: Vec<Row> = pick(patch, &hit, true);
     let several = sees_several(&patch.rows, &removed, compared(fault));
+    let in_order = removed.iter().map(|row| {
+        let (v, w) = link_by_parity(row.numbers, a, b);
+        (*row, [a, b, v, w])
+    });
+    let in_order: Vec<(Row, [u8; 4])> = in_order.collect();
+    let round = Round {
+        ends: [a, b],
+        rows: &in_order,
+    };
+    let marked = round.a_mark_goes(fault);
     let bent = !closed && is_bent(patch, [a, b, ring[0], ring[m - 1]], fault);
     if bent && fault == Fault::TestsFlatBeforeLength {
         return Err(answer::NOT_FLAT);
@@ -148,9 +207,16 @@ pub fn removal(patch: &Patch, ends: [usize; 2], fault: Fault) -> Result<Patch, u
     if bent && fault != Fault::TestsFlatAfterRoom {
         return Err(answer::NOT_FLAT);
     }
+    if marked && fault == Fault::TestsMarksBeforeRegions {
+        return Err(answer::MARK_GOES);
+    }
     let late = [Fault::TestsRegionsAfterRoom, Fault::TestsRegionsLast].contains(&fault);
     if several && !late {
         return Err(answer::TWO_REGIONS);
+    }
+    let late = late || [Fault::TestsMarksAfterRoom, Fault::TestsMarksLast].contains(&fault);
+    if marked && !late {
+        return Err(answer::MARK_GOES);
     }
     let no_room = patch.rows.len() + m > room(closed, fault);
     if no_room && fault != Fault::TestsRoomLast {
@@ -161,6 +227,10 @@ pub fn removal(patch: &Patch, ends: [usize; 2], fault: Fault) -> Result<Patch, u
     }
     if several && fault == Fault::TestsRegionsAfterRoom {
         return Err(answer::TWO_REGIONS);
+    }
+    let after_room = [Fault::TestsRegionsAfterRoom, Fault::TestsMarksAfterRoom];
+    if marked && after_room.contains(&fault) {
+        return Err(answer::MARK_GOES);
     }
     let table = Table::fill(patch, &kept, [a, b], (&ring, closed), fault);
     let new = table.expanded().ok_or(answer::NOT_ADMISSIBLE)?;
@@ -178,9 +248,20 @@ pub fn removal(patch: &Patch, ends: [usize; 2], fault: Fault) -> Result<Patch, u
     if several {
         return Err(answer::TWO_REGIONS);
     }
+    if marked {
+        return Err(answer::MARK_GOES);
+    }
     let region = removed[0].region;
-    let new = new.into_iter().map(|numbers| Row { numbers, region });
+    let new: Vec<Row> = new
+        .into_iter()
+        .map(|numbers| Row {
+            numbers,
+            region,
+            marks: round.marks_of(numbers, &kept, fault),
+        })
+        .collect();
     Ok(Patch {
+        version: version_after(patch, fault),
         points: patch.points.clone(),
         rows: kept.into_iter().chain(new).collect(),
     })
@@ -293,6 +374,7 @@ fn compared(fault: Fault) -> Compared {
         Fault::ComparesRegionsTwoByTwo => Compared::TwoByTwo,
         Fault::ComparesLowBitsOfRegions => Compared::LowBits,
         Fault::ComparesRegionsOfTable => Compared::WholeTable,
+        Fault::ComparesRegionsWithMarks => Compared::WithMarks,
         _ => Compared::EachWithTheNext,
     }
 }

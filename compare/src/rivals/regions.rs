@@ -16,6 +16,8 @@ pub enum Compared {
     LowBits,
     /// Each row of the table with the next one.
     WholeTable,
+    /// Each with the next one, the marks too.
+    WithMarks,
 }
 
 /// Does a rival that compares so see more than one region among the rows that go?
@@ -33,5 +35,11 @@ pub fn sees_several(table: &[Row], going: &[Row], compared: Compared) -> bool {
         Compared::TwoByTwo => going.chunks_exact(2).any(differ),
         Compared::LowBits => going.windows(2).any(low_bits),
         Compared::WholeTable => table.windows(2).any(differ),
+        Compared::WithMarks => {
+            let byte = |row: &Row| (row.region, row.marks);
+            going
+                .windows(2)
+                .any(|pair| byte(&pair[0]) != byte(&pair[1]))
+        }
     }
 }

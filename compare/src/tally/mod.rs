@@ -1,24 +1,26 @@
 //! What a run of cases covered: how often each answer came, each length of ring and chain, each fine point.
 
 use crate::gen::Case;
-use crate::model::limits::{BLOCK_BYTES, LONGEST_RING, MAX_ROWS};
+use crate::model::limits::{BLOCK_BYTES, LONGEST_RING, MARKED, MAX_ROWS};
 use crate::model::mesh::Row;
 use crate::model::removal::worst_removed;
 use crate::model::ring::{site, Site};
 use crate::model::{answer, open, run, Call, Outcome, Patch, Quality};
-use crate::rivals::{faulty_flip, removal, Fault, FAULTS, FLIP_FAULTS};
+use crate::rivals::{faulty_flip, faulty_open, removal, Fault, FAULTS, FLIP_FAULTS, OPEN_FAULTS};
 use std::collections::BTreeMap;
 
 mod chains;
+mod marks;
 mod measures;
 mod print;
 mod regions;
 
+pub use marks::is_marked;
 pub use measures::row_points;
 pub use regions::{SHARED_IN_TABLE, SHARED_ROUND_EDGE};
 
-/// Answers are 0 to 21.
-pub const ANSWERS: usize = 22;
+/// Answers are 0 to 23.
+pub const ANSWERS: usize = 24;
 
 /// Rings of this length and longer share a line, and so do chains.
 const LONGER: usize = LONGEST_RING + 2;
@@ -30,6 +32,8 @@ pub type Counts = [u64; ANSWERS];
 pub struct Tally {
     pub cases: u64,
     pub calls: BTreeMap<&'static str, Counts>,
+    /// Those of version 2 among them.
+    pub marked: BTreeMap<&'static str, Counts>,
     pub families: BTreeMap<&'static str, Counts>,
     /// Answers of removals whose edge has one ring, by its length.
     pub rings: BTreeMap<usize, Counts>,
@@ -57,6 +61,7 @@ impl Tally {
     pub fn and(mut self, other: Tally) -> Tally {
         self.cases += other.cases;
         merge(&mut self.calls, other.calls, add_counts);
+        merge(&mut self.marked, other.marked, add_counts);
         merge(&mut self.families, other.families, add_counts);
         merge(&mut self.rings, other.rings, add_counts);
         merge(&mut self.chains, other.chains, add_counts);
@@ -71,6 +76,9 @@ impl Tally {
         let number = outcome.answer();
         self.cases += 1;
         count(&mut self.calls, name(&case.call), number);
+        if marks::is_marked(&case.call) {
+            count(&mut self.marked, name(&case.call), number);
+        }
         count(&mut self.families, case.family, number);
         if case.meant.is_some_and(|meant| meant != number) {
             self.disagreements.push(format!("got {number}: {case:?}"));
@@ -78,6 +86,10 @@ impl Tally {
         self.add_page(&case.call, &outcome);
         self.add_shown(&case.call, &outcome);
         self.add_flip_rivals(&case.call, &outcome);
+        self.add_open_rivals(&case.call, number);
+        for name in marks::mark_points(&case.call, &outcome) {
+            self.point(&name, true);
+        }
         for name in regions::region_points(&case.call, number) {
             self.point(&name, true);
         }
@@ -161,8 +173,11 @@ impl Tally {
             self.disagreements
                 .push(format!("the second removal differs on {patch:?}, {ends:?}"));
         }
+        // Those that get something else wrong are told by version 1.
+        let of_marks = patch.version == MARKED;
         for fault in FAULTS {
-            *self.told.entry(format!("{fault:?}")).or_default() += u64::from(differs(fault));
+            let told = fault.is_of_marks() == of_marks && differs(fault);
+            *self.told.entry(format!("{fault:?}")).or_default() += u64::from(told);
         }
     }
 
@@ -175,10 +190,30 @@ impl Tally {
         else {
             return;
         };
+        let of_marks = marks::is_marked(call);
         for fault in FLIP_FAULTS {
-            let mut out = out.clone();
-            let number = faulty_flip(block, numbers, &mut out, fault);
-            let differs = Outcome::Bytes(number, out) != *right;
+            let told = fault.is_of_marks() == of_marks && {
+                let mut out = out.clone();
+                let number = faulty_flip(block, numbers, &mut out, fault);
+                Outcome::Bytes(number, out) != *right
+            };
+            *self.told.entry(format!("{fault:?}")).or_default() += u64::from(told);
+        }
+    }
+
+    /// A call whose block opens with another answer has another answer.
+    fn add_open_rivals(&mut self, call: &Call, number: u32) {
+        let block = marks::input_of(call);
+        if number == answer::LENGTH || block.len() != BLOCK_BYTES {
+            return;
+        }
+        let right = open(block).err().unwrap_or(answer::DONE);
+        if faulty_open(block, right, None) != right {
+            self.disagreements
+                .push(format!("the second opening differs on {call:?}"));
+        }
+        for fault in OPEN_FAULTS {
+            let differs = faulty_open(block, right, Some(fault)) != right;
             *self.told.entry(format!("{fault:?}")).or_default() += u64::from(differs);
         }
     }

@@ -13,6 +13,12 @@ impl fmt::Display for Tally {
             .map(|(name, c)| (name.to_string(), *c))
             .collect();
         matrix(f, "calls", &calls)?;
+        let marked: Vec<_> = self
+            .marked
+            .iter()
+            .map(|(name, c)| (name.to_string(), *c))
+            .collect();
+        matrix(f, "calls of version 2", &marked)?;
         let by_length = |counts: &BTreeMap<usize, Counts>| {
             let lines = counts.iter().map(|(m, c)| (length_name(*m), *c));
             lines.collect::<Vec<_>>()

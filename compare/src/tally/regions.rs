@@ -1,6 +1,7 @@
 //! Fine points of removals and flips where the rows that would go have more than one region: how they share them, and what else
 //! is or would be refused.
 
+use super::marks::is_marked;
 use crate::model::mesh::region_of;
 use crate::model::ring::{link, site, Site};
 use crate::model::{answer, open, run, Call, Patch, Row};
@@ -29,7 +30,7 @@ pub fn region_points(call: &Call, number: u32) -> Vec<String> {
         _ => return vec![],
     };
     // Behind 9 and 10 there are rows that would go, and with 0, 14, 15 and 16 they have one region.
-    if !(answer::OPEN..=answer::TWO_REGIONS).contains(&number) {
+    if !(answer::OPEN..=answer::TWO_REGIONS).contains(&number) || is_marked(call) {
         return vec![];
     }
     let patch = open(block).expect("the numbers were looked at");
@@ -57,7 +58,7 @@ pub fn region_points(call: &Call, number: u32) -> Vec<String> {
     shown
 }
 
-fn kind(call: &Call, edge: Option<&Site>) -> &'static str {
+pub fn kind(call: &Call, edge: Option<&Site>) -> &'static str {
     match (call, edge) {
         (Call::Flip { numbers, .. }, _) if numbers.len() == 3 => "2-3 flip",
         (Call::Flip { .. }, _) => "3-2 flip",

@@ -5,8 +5,8 @@ use crate::gen::{cases_at, Case};
 use crate::model::call::{PAGE_NUMBERS, SUMMARY_NUMBERS};
 use crate::model::limits::{BLOCK_BYTES, FIELD_BYTES, MAX_ROWS};
 use crate::model::{answer, open, run, Call, Outcome, Patch, Summary};
-use crate::tally::{name, row_points, Tally};
-use std::cmp::Ordering;
+use crate::tally::{is_marked, name, row_points, Tally};
+use std::cmp::{Ordering, Reverse};
 use std::collections::BTreeMap;
 use std::thread;
 
@@ -16,8 +16,10 @@ const COUNT: u64 = 10_000;
 
 /// How many cases show a thing: one for each length and outcome of a chain, which the fine points show again, one for each
 /// way to share several regions and each length of a ring that has them, which the wrong kernels show again, one for each
-/// refusal of a flip before its count is looked at, and one of each call for each end that the measure reaches.
+/// refusal of a flip before its count is looked at, one of each call for each end that the measure reaches, and one for each
+/// thing of version 2.
 fn wanted(reason: &str) -> usize {
+    let marked = reason.starts_with("version 2, ");
     let chain = reason.starts_with("chain, m = ");
     let other_count = reason.starts_with("flip, other count");
     let regions = [", 20: ", ": 20", " before 20"]
@@ -26,25 +28,54 @@ fn wanted(reason: &str) -> usize {
     let ends = ["the largest D", "a nearly flat row"]
         .iter()
         .any(|part| reason.contains(part));
-    match chain || other_count || regions || ends {
+    match marked || chain || other_count || regions || ends {
         true => 1,
         false => 2,
     }
 }
 
-/// The stored cases, by call and answer.
-pub fn picked() -> Vec<Case> {
-    let mut shown: BTreeMap<String, usize> = BTreeMap::new();
-    let mut stored: Vec<Case> = vec![];
-    for (case, reasons) in judged() {
-        let count = |reason: &String| shown.get(reason).copied().unwrap_or(0);
-        if reasons.iter().all(|reason| count(reason) >= wanted(reason)) {
-            continue;
-        }
+/// How often each thing is shown so far.
+#[derive(Default)]
+struct Shown(BTreeMap<String, usize>);
+
+impl Shown {
+    /// How many of these are shown too seldom.
+    fn missing(&self, reasons: &[String]) -> usize {
+        let count = |reason: &String| self.0.get(reason).copied().unwrap_or(0);
+        let missing = |reason: &&String| count(reason) < wanted(reason);
+        reasons.iter().filter(missing).count()
+    }
+
+    fn add(&mut self, reasons: &[String]) {
         for reason in reasons {
-            *shown.entry(reason).or_default() += 1;
+            *self.0.entry(reason.clone()).or_default() += 1;
         }
-        stored.push(case);
+    }
+}
+
+/// The stored cases, by call and answer: those of version 1 as they come, then of version 2 each time the one that shows most
+/// of what is missing.
+pub fn picked() -> Vec<Case> {
+    let mut shown = Shown::default();
+    let mut stored: Vec<Case> = vec![];
+    let of_version_2 = |(case, _): &(Case, Vec<String>)| is_marked(&case.call);
+    let (marked, plain): (Vec<_>, Vec<_>) = judged().into_iter().partition(of_version_2);
+    for (case, reasons) in plain {
+        if shown.missing(&reasons) > 0 {
+            shown.add(&reasons);
+            stored.push(case);
+        }
+    }
+    let most = |shown: &Shown| {
+        let left = marked
+            .iter()
+            .map(|(case, reasons)| (shown.missing(reasons), case, reasons));
+        let best = left.min_by_key(|(missing, _, _)| Reverse(*missing));
+        best.filter(|(missing, _, _)| *missing > 0)
+    };
+    while let Some((_, case, reasons)) = most(&shown) {
+        shown.add(reasons);
+        stored.push(case.clone());
     }
     stored.sort_by_key(|case| place(&case.call));
     stored
@@ -82,8 +113,11 @@ fn storable(mut case: Case) -> Option<Case> {
 pub fn reasons(case: &Case) -> Vec<String> {
     let (_, number) = place(&case.call);
     let name = name(&case.call);
-    let mut reasons = vec![format!("{name} {number}")];
     let tally = Tally::of([case.clone()].into_iter().chain(page_of(case)));
+    if is_marked(&case.call) {
+        return in_marked(&case.call, number, tally);
+    }
+    let mut reasons = vec![format!("{name} {number}")];
     for (what, lengths) in [("ring", tally.rings), ("chain", tally.chains)] {
         for (m, counts) in lengths {
             let given = (0..).zip(counts).filter(|(_, count)| *count > 0);
@@ -99,6 +133,32 @@ pub fn reasons(case: &Case) -> Vec<String> {
     }
     let inputs = in_inputs(&case.call, number).into_iter();
     reasons.extend(inputs.map(|input| format!("{name}: {input}")));
+    reasons
+}
+
+/// What a case of version 2 shows: its answer, of flips with any numbers up to that with which their block is refused, the length of a ring or a chain that is removed, and what marks show.
+fn in_marked(call: &Call, number: u32, tally: Tally) -> Vec<String> {
+    let name = match (call, number) {
+        (Call::Flip { .. }, answer::LENGTH..=answer::FACE_TWICE) => "flip",
+        _ => name(call),
+    };
+    let mut reasons = vec![format!("version 2, {name} {number}")];
+    if number == answer::DONE {
+        let patch = patch_in(call).expect("it opens");
+        let marks = patch.rows.iter().any(|row| row.marks != [false; 4]);
+        reasons.extend(marks.then(|| format!("version 2, {name}: a marked face")));
+        for (what, lengths) in [("ring", tally.rings), ("chain", tally.chains)] {
+            reasons.extend(
+                lengths
+                    .keys()
+                    .map(|m| format!("version 2, {what}, m = {m}: 0")),
+            );
+        }
+    }
+    let told = tally.told.into_iter().filter(|(_, told)| *told > 0);
+    reasons.extend(told.map(|(fault, _)| format!("not {fault}")));
+    let points = tally.points.into_iter().filter(|(_, seen)| *seen > 0);
+    reasons.extend(points.map(|(point, _)| point));
     reasons
 }
 

@@ -18,7 +18,7 @@
 //! | 632 to 1151 | the output after the call; of `open` the fields, in their places of the block |
 
 use super::{call_number, given};
-use crate::model::limits::{FIELD_BYTES, VERSION_AT};
+use crate::model::limits::FIELD_BYTES;
 use crate::model::{answer, open, remove, run, Call, Outcome};
 
 /// Bytes of a record.
@@ -100,14 +100,9 @@ fn gives(call: &Call) -> Gives {
     }
 }
 
-/// The counts, the points and the rows; the version is no field.
+/// The version, the counts, the points and the rows.
 fn fields_of(block: &[u8]) -> [u8; FIELD_BYTES] {
-    let Ok(patch) = open(block) else {
-        return [0; FIELD_BYTES];
-    };
-    let mut fields = patch.to_fields();
-    fields[VERSION_AT] = 0;
-    fields
+    open(block).map_or([0; FIELD_BYTES], |patch| patch.to_fields())
 }
 
 fn removal_gives(block: &[u8], [a, b]: [usize; 2], mut output: Vec<u8>) -> Gives {

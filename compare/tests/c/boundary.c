@@ -1,7 +1,7 @@
 /*
  * The C boundary as a stranger would break it: null pointers with length 0, outputs and inputs of every length, memory that
- * was never written, blocks at any address, flips with any count of numbers. Prints how many calls each part made. The first
- * call that does not do what sumpnewt.h says is told in one line and ends the program.
+ * was never written, blocks at any address, flips with any count of numbers, marked faces. Prints how many calls each part made.
+ * The first call that does not do what sumpnewt.h says is told in one line and ends the program.
  *
  * compare/tests/boundary.rs compiles and runs it; docs/TESTS.md has the line for valgrind.
  */
@@ -167,7 +167,7 @@ static void input_lengths(const struct call *call) {
 
 /* A block that is refused for what is in it; sealing does not look at the sums. */
 static uint32_t refusal(const struct call *call) {
-    return call->run == sealed ? SUMPNEWT_NOT_VERSION_1 : SUMPNEWT_SUM;
+    return call->run == sealed ? SUMPNEWT_NOT_A_VERSION : SUMPNEWT_SUM;
 }
 
 static void refusals(const struct call *call) {
@@ -269,6 +269,81 @@ static void no_numbers(void) {
     wrong_count();
 }
 
+/* The last byte of a row of a block. */
+static uint8_t *last_byte(uint8_t *block, size_t row) {
+    return block + SUMPNEWT_ROWS_AT + (row + 1) * SUMPNEWT_ROW_BYTES - 1;
+}
+
+/* A block in version 2 with these bits added to the last bytes of its first two rows; its sums are made here, since sealing
+   refuses marks that disagree. */
+static void mark(uint8_t *marked, const uint8_t *block, uint8_t first_row, uint8_t second_row) {
+    uint16_t first = 0;
+    uint16_t second = 0;
+    memcpy(marked, block, SUMPNEWT_BLOCK_BYTES);
+    marked[SUMPNEWT_VERSION_AT] = SUMPNEWT_VERSION_MARKED;
+    *last_byte(marked, 0) |= first_row;
+    *last_byte(marked, 1) |= second_row;
+    for (size_t place = 0; place < SUMPNEWT_FIELDS_BYTES; place++) {
+        first = (uint16_t)(first + marked[place]);
+        second = (uint16_t)(second + first);
+    }
+    marked[SUMPNEWT_FIELDS_BYTES] = (uint8_t)first;
+    marked[SUMPNEWT_FIELDS_BYTES + 1] = (uint8_t)(first >> 8);
+    marked[SUMPNEWT_FIELDS_BYTES + 2] = (uint8_t)second;
+    marked[SUMPNEWT_FIELDS_BYTES + 3] = (uint8_t)(second >> 8);
+}
+
+static int is_about_edge(const struct call *call) {
+    return call->run == removed || call->run == paged || call->run == flipped_edge;
+}
+
+/* Every call on the block of three rows; no row of it has the face that is flipped. */
+static void on_marked(const uint8_t *marked, uint32_t all, uint32_t of_edge) {
+    for (size_t place = 0; place < CALLS; place++) {
+        const struct call *call = &calls[place];
+        uint32_t right = all != SUMPNEWT_DONE ? all : is_about_edge(call) ? of_edge : SUMPNEWT_DONE;
+        if (all == SUMPNEWT_DONE && call->run == flipped_face) {
+            right = SUMPNEWT_NOT_HELD;
+        }
+        expect(call, guarded(call, marked, call->n, GUARD, call->out_n), right, place);
+    }
+}
+
+/* A new row has this last byte, and the block is of version 2. */
+static void expect_last(const struct call *call, size_t row, uint8_t byte) {
+    uint8_t *out = room + GUARD;
+    if (out[SUMPNEWT_VERSION_AT] != SUMPNEWT_VERSION_MARKED || *last_byte(out, row) != byte) {
+        fail(call, "a mark is not where it must be", row);
+    }
+}
+
+/* Faces of the shell, which stay; a face with both ends marked in one of its rows, and in both; the face of two rows. */
+static void marked_faces(void) {
+    static const struct call removal = {"remove", removed, three, SUMPNEWT_BLOCK_BYTES, SUMPNEWT_BLOCK_BYTES, 1};
+    static const struct call face = {"flip of a face", flipped_face, two, SUMPNEWT_BLOCK_BYTES, SUMPNEWT_BLOCK_BYTES, 1};
+    uint8_t marked[SUMPNEWT_BLOCK_BYTES];
+    uint8_t region = *last_byte(three, 0) & SUMPNEWT_REGION_BITS;
+
+    mark(marked, three, SUMPNEWT_MARK_QRS, SUMPNEWT_MARK_PSR);
+    on_marked(marked, SUMPNEWT_DONE, SUMPNEWT_DONE);
+    expect(&removal, guarded(&removal, marked, removal.n, GUARD, removal.out_n), SUMPNEWT_DONE, 0);
+    expect_last(&removal, 0, region | SUMPNEWT_MARK_PSR);
+    expect_last(&removal, 1, region | SUMPNEWT_MARK_PQS);
+
+    mark(marked, three, SUMPNEWT_MARK_PQS, 0);
+    on_marked(marked, SUMPNEWT_MARKS_DISAGREE, SUMPNEWT_MARKS_DISAGREE);
+    mark(marked, three, SUMPNEWT_MARK_PQS, SUMPNEWT_MARK_PRQ);
+    on_marked(marked, SUMPNEWT_DONE, SUMPNEWT_MARK_GOES);
+
+    mark(marked, two, SUMPNEWT_MARK_QRS, SUMPNEWT_MARK_PRQ);
+    expect(&face, guarded(&face, marked, face.n, GUARD, face.out_n), SUMPNEWT_MARK_GOES, 0);
+    mark(marked, two, SUMPNEWT_MARK_PSR, SUMPNEWT_MARK_PQS);
+    expect(&face, guarded(&face, marked, face.n, GUARD, face.out_n), SUMPNEWT_DONE, 1);
+    expect_last(&face, 0, region | SUMPNEWT_MARK_QRS);
+    expect_last(&face, 1, region | SUMPNEWT_MARK_PSR);
+    expect_last(&face, 2, region);
+}
+
 static void tell(const char *name, size_t before) {
     printf("%s: %zu calls\n", name, made - before);
 }
@@ -281,7 +356,7 @@ static void part(const char *name, void (*tried)(const struct call *call)) {
     tell(name, before);
 }
 
-static void flips(const char *name, void (*tried)(void)) {
+static void alone(const char *name, void (*tried)(void)) {
     size_t before = made;
     tried();
     tell(name, before);
@@ -295,14 +370,14 @@ static int blocks_are_made(void) {
         {0, 1, 2, 3, 7}, {0, 1, 3, 4, 7}, {0, 1, 4, 2, 7},
     };
     uint8_t fields[SUMPNEWT_FIELDS_BYTES] = {0};
-    fields[SUMPNEWT_VERSION_AT] = SUMPNEWT_VERSION;
+    fields[SUMPNEWT_VERSION_AT] = SUMPNEWT_VERSION_PLAIN;
     fields[SUMPNEWT_POINT_COUNT_AT] = POINTS;
     fields[SUMPNEWT_ROW_COUNT_AT] = sizeof rows / sizeof rows[0];
     memcpy(fields + SUMPNEWT_POINTS_AT, points, sizeof points);
     memcpy(fields + SUMPNEWT_ROWS_AT, rows, sizeof rows);
     uint32_t number = sumpnewt_seal(fields, sizeof fields, three, sizeof three);
     memcpy(spoiled, three, sizeof three);
-    spoiled[SUMPNEWT_VERSION_AT]++;
+    spoiled[SUMPNEWT_VERSION_AT] = SUMPNEWT_VERSION_MARKED + 1;
     return number == SUMPNEWT_DONE && removed(three, sizeof three, two, sizeof two) == SUMPNEWT_DONE;
 }
 
@@ -324,8 +399,9 @@ int main(void) {
     part("blocks at every address", addresses);
     part("outputs fresh from malloc", fresh_heap);
     part("outputs fresh on the stack", fresh_stack);
-    flips("flips with neither two numbers nor three", wrong_counts);
-    flips("flips with a null pointer for no numbers", no_numbers);
+    alone("flips with neither two numbers nor three", wrong_counts);
+    alone("flips with a null pointer for no numbers", no_numbers);
+    alone("marked faces", marked_faces);
 
     if (memcmp(before[0], three, sizeof three) != 0 || memcmp(before[1], two, sizeof two) != 0 ||
         memcmp(before[2], spoiled, sizeof spoiled) != 0) {

@@ -13,6 +13,7 @@ use Rattle.rows.specs.Regions.{mixed}
 use Rattle.mesh.specs.Mesh.{keepsMeshRule}
 use Rattle.answers.specs.declared.Answer.{Answer}
 use Rattle.answers.specs.declared.Answer.the-variants.{Done, Refused}
+use Rattle.marking.specs.Marking.{markGoes}
 use Rattle.layout.specs.Layout.{Patch, blockBytes, maxRows, fieldsOf}
 use Rattle.answers.specs.Answers.{Tests, firstRefusal, answerOf}
 use Rattle.block.specs.Opening.{notBlock, openAnswer}
@@ -21,7 +22,7 @@ use Rattle.answers.proofs.Refusals.{goes-on, refuses}
 use Rattle.answers.proofs.ByNumber.{unlike, testOf, passes, both-passed, front-passed}
 use Rattle.ring.specs.Ring.{Site, siteOf, m, minRing, numbersWrong, ringsAlone, orChains, linkOpen, lengthWrong, notFlat, edgeTests}
 use Rattle.ring.proofs.EdgeGoesRound.{closed-passed}
-use Rattle.calls.specs.Removing.{blockTests, noRoom, noWay, noneBetter, removeAnswer, Sound}
+use Rattle.calls.specs.Removing.{blockTests, noRoom, noWay, noneBetter, removeAnswer, Sound, markLost}
 use Rattle.calls.specs.Removing.{removalTests}
 use Rattle.calls.specs.Flipping.{flip32Tests, pairOf, patchAfter23, flip23Tests, flipTests, flipAnswer}
 use Rattle.calls.proofs.HandedOn.{Number, number-handed, handed-done}
@@ -142,6 +143,7 @@ pub record Removes (block out : List ℕ) (e f : ℕ) : Type 0 where
   pub length-right : lengthWrong (siteOf (fieldsOf block) e f) ≡ false
   pub closed-or-flat : notFlat (siteOf (fieldsOf block) e f) ≡ false
   pub one-region : mixed (siteOf (fieldsOf block) e f .removed) ≡ false
+  pub marks-stay : markLost (siteOf (fieldsOf block) e f) ≡ false
   pub room : noRoom (siteOf (fieldsOf block) e f) ≡ false
   pub way : noWay (siteOf (fieldsOf block) e f) ≡ false
   pub better : noneBetter (siteOf (fieldsOf block) e f) ≡ false
@@ -158,12 +160,13 @@ removes block out e f h =
       length-right = passes 13 tests tt rest;
       closed-or-flat = passes 19 tests tt rest;
       one-region = passes 20 tests tt rest;
+      marks-stay = passes 23 tests tt rest;
       room = passes 14 tests tt rest;
       way = passes 15 tests tt rest;
       better = passes 16 tests tt rest;
     }
 
--- behind a sound edge and an output of the right length the answers 13 to 16, 19 and 20 are left
+-- behind a sound edge and an output of the right length the answers 13 to 16, 19, 20 and 23 are left
 pub remove-left : (block out : List ℕ) (e f : ℕ) → Sound block e f → length out ≡ blockBytes
     → removeAnswer block out e f ≡ firstRefusal (removalTests (siteOf (fieldsOf block) e f))
 unfolding removeAnswer
@@ -219,6 +222,7 @@ pub record Flips32 (block out : List ℕ) (e f : ℕ) : Type 0 where
   pub size : length out ≡ blockBytes
   pub three : m (siteOf (fieldsOf block) e f) ≡ minRing
   pub one-region : mixed (siteOf (fieldsOf block) e f .removed) ≡ false
+  pub marks-stay : markLost (siteOf (fieldsOf block) e f) ≡ false
   pub way : noWay (siteOf (fieldsOf block) e f) ≡ false
 
 pub flips-32 : (block out : List ℕ) (e f : ℕ) → flipAnswer block out (e ∷ f ∷ []) ≡ 0 → Flips32 block out e f
@@ -234,6 +238,7 @@ flips-32 block out e f h =
       size = size;
       three = eqb-true (m site) minRing (not-false (eqb (m site) minRing) (passes 13 tests tt rest));
       one-region = passes 20 tests tt rest;
+      marks-stay = passes 23 tests tt rest;
       way = passes 15 tests tt rest;
     }
 
@@ -259,6 +264,7 @@ pub record Flips23 (block out : List ℕ) (x y z : ℕ) : Type 0 where
   pub no-single : length (pairOf (fieldsOf block) (x ∷ y ∷ z ∷ []) .removed) ≡ 1 → ⊥
   pub apart : pairOf (fieldsOf block) (x ∷ y ∷ z ∷ []) .a ≡ pairOf (fieldsOf block) (x ∷ y ∷ z ∷ []) .b → ⊥
   pub one-region : mixed (pairOf (fieldsOf block) (x ∷ y ∷ z ∷ []) .removed) ≡ false
+  pub marks-stay : markGoes (x ∷ y ∷ z ∷ []) (pairOf (fieldsOf block) (x ∷ y ∷ z ∷ []) .removed) ≡ false
   pub room : length (patchAfter23 (fieldsOf block) (x ∷ y ∷ z ∷ []) .rows) ≤ maxRows
   pub rule : T (keepsMeshRule (length (fieldsOf block .points)) (patchAfter23 (fieldsOf block) (x ∷ y ∷ z ∷ []) .rows))
 
@@ -281,6 +287,7 @@ flips-23 block out x y z h =
       no-single = eqb-false (length (pair .removed)) 1 (passes 11 tests tt rest);
       apart = eqb-false (pair .a) (pair .b) (passes 18 tests tt rest);
       one-region = passes 20 tests tt rest;
+      marks-stay = passes 23 tests tt rest;
       room = ltb-false maxRows (length rows) (passes 14 tests tt rest);
       rule = is-yes (keepsMeshRule count rows) (not-false (keepsMeshRule count rows) (passes 15 tests tt rest));
     }

@@ -8,6 +8,7 @@ use borrow.Author.Tests.{ne-eqb}
 use lib.ListN.{length}
 use Rattle.answers.specs.declared.Answer.{Answer}
 use Rattle.answers.specs.declared.Answer.the-variants.{Done, Refused}
+use Rattle.rows.specs.Rows.{version}
 use Rattle.layout.specs.Layout.{blockBytes, fieldsOf, bytesOf}
 use Rattle.answers.specs.Answers.{firstRefusal, answerOf}
 use Rattle.block.specs.Opening.{openAnswer}
@@ -24,7 +25,7 @@ module _ (block out numbers : List ℕ) where
   unfolding flipBytes
   flip-refused n e = (rw e, rw (e, ne-eqb (suc n) 0 (λ q. omega arith)))
 
-  pub flip-done : (after : List ℕ) → flipAnswer block out numbers ≡ 0 → after ≡ bytesOf (patchFlipped (fieldsOf block) numbers)
+  pub flip-done : (after : List ℕ) → flipAnswer block out numbers ≡ 0 → after ≡ bytesOf (version block) (patchFlipped (fieldsOf block) numbers)
       → Told Done after
   unfolding flipBytes
   flip-done after e w = (rw e, rw e w)

@@ -8,24 +8,27 @@ use lib.ListN.{length}
 use Rattle.lists.specs.Lists.{those, firstOr, has}
 use Rattle.rows.specs.declared.Row.{Row}
 use Rattle.rows.specs.Labels.{noMarks}
-use Rattle.rows.specs.Rows.{numbers, holdsFace, noRow}
+use Rattle.rows.specs.Rows.{version, numbers, holdsFace, noRow}
 use Rattle.rows.specs.Regions.{regionOf, mixed}
 use Rattle.mesh.specs.Mesh.{keepsMeshRule}
 use Rattle.rows.specs.Tetrahedra.{arrangedFrom}
+use Rattle.marking.specs.Marking.{markGoes, dressed}
 use Rattle.layout.specs.Layout.{Patch, maxRows, fieldsOf, bytesOf}
 use Rattle.answers.specs.Answers.{Tests, firstRefusal, written}
 use Rattle.ring.specs.Ring.{Site, siteOf, m, minRing, numbersWrong, ringsAlone, edgeTests}
 use Rattle.walk.specs.Walk.{smallest}
-use Rattle.triangulation.specs.Triangulation.{newRows}
-use Rattle.triangulation.specs.Best.{chosen}
-use Rattle.calls.specs.Removing.{blockTests, noWay, patchAfter}
+use Rattle.calls.specs.Removing.{blockTests, noWay, markLost, rowsMade, patchAfter}
 
 -- ---- the 3-2 flip: removal of an edge with a closed ring of m = 3, with no quality test
 
--- answers 13, 20 and 15 of a 3-2 flip; 13: m is not 3; 20: the rows that go have more than one region; one row fewer comes than goes, so
--- there is always room
+-- answers 13, 20, 23 and 15 of a 3-2 flip; 13: m is not 3; 20: the rows that go have more than one region; one row fewer comes than goes,
+-- so there is always room
 unfoldable pub flip32Tests : Site → Tests
-flip32Tests site = (13, not (eqb (m site) minRing)) ∷ (20, mixed (site .removed)) ∷ (15, noWay site) ∷ []
+flip32Tests site =
+    (13, not (eqb (m site) minRing))
+    ∷ (20, mixed (site .removed))
+    ∷ (23, markLost site)
+    ∷ (15, noWay site) ∷ []
 
 -- ---- the 2-3 flip: a face in two rows
 
@@ -64,13 +67,17 @@ threeRows pair face =
     let row : ℕ → ℕ → Row = λ x y. record { p = pair .a; q = pair .b; r = x; s = y; region = region; marks = noMarks } in
     row u v ∷ row v w ∷ row w u ∷ []
 
+-- the three with their marks
+abbrev pub threeMade : Pair → List ℕ → List Row
+threeMade pair face = dressed (pair .removed) (pair .kept) (threeRows pair face)
+
 -- both rows go; the three are appended
 unfoldable pub patchAfter23 : Patch → List ℕ → Patch
 patchAfter23 patch face =
     let pair = pairOf patch face in
-    record { points = patch .points; rows = pair .kept ++ threeRows pair face }
+    record { points = patch .points; rows = pair .kept ++ threeMade pair face }
 
--- answers 9 to 11, 18, 20, 14 and 15 of a 2-3 flip
+-- answers 9 to 11, 18, 20, 23, 14 and 15 of a 2-3 flip; 23: the face is marked
 unfoldable pub flip23Tests : Patch → List ℕ → Tests
 flip23Tests patch face =
     let count = length (patch .points) in
@@ -81,6 +88,7 @@ flip23Tests patch face =
     ∷ (11, eqb (length (pair .removed)) 1)
     ∷ (18, eqb (pair .a) (pair .b))
     ∷ (20, mixed (pair .removed))
+    ∷ (23, markGoes face (pair .removed))
     ∷ (14, ltb maxRows (length rows))
     ∷ (15, not (keepsMeshRule count rows)) ∷ []
 
@@ -106,8 +114,8 @@ flipTests patch =
 unfoldable pub rowsFlipped : Patch → List ℕ → List Row
 rowsFlipped patch =
     byCount
-    (λ e f. let site = siteOf patch e f in newRows site 1 (chosen site))
-    (λ x y z. let face = x ∷ y ∷ z ∷ [] in threeRows (pairOf patch face) face)
+    (λ e f. rowsMade (siteOf patch e f))
+    (λ x y z. let face = x ∷ y ∷ z ∷ [] in threeMade (pairOf patch face) face)
     []
 
 -- the patch afterwards; with any other count, which is refused, it is as it was and is never written
@@ -124,4 +132,4 @@ flipAnswer block out numbers = firstRefusal (blockTests block out ++ flipTests (
 
 -- each byte of the output block afterwards
 unfoldable pub flipBytes : List ℕ → List ℕ → List ℕ → List ℕ
-flipBytes block out numbers = written (flipAnswer block out numbers) (bytesOf (patchFlipped (fieldsOf block) numbers)) out
+flipBytes block out numbers = written (flipAnswer block out numbers) (bytesOf (version block) (patchFlipped (fieldsOf block) numbers)) out

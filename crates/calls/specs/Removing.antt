@@ -10,15 +10,18 @@ use Rattle.lists.specs.Lists.{every, any}
 use Rattle.quality.specs.declared.Quality.{Quality}
 use Rattle.quality.specs.Quality.{worst, worse, zeroQuality}
 use Rattle.page.specs.Page.{shown, pageRow}
+use Rattle.rows.specs.declared.Row.{Row}
+use Rattle.rows.specs.Rows.{version}
 use Rattle.rows.specs.RowMeasure.{rowQuality}
 use Rattle.rows.specs.Regions.{mixed}
+use Rattle.marking.specs.Marking.{markGoes, dressed}
 use Rattle.layout.specs.Layout.{Patch, maxRows, fieldsOf, bytesOf}
 use Rattle.answers.specs.Answers.{Tests, firstRefusal, written}
 use Rattle.block.specs.Opening.{notBlock, openAnswer}
 use Rattle.layout.specs.Layout.{sumWrong}
 use Rattle.body.specs.Body.{bodyTests}
 use Rattle.ring.specs.Ring.{Site, siteOf, m, orChains, edgeTests, lengthTests, notFlat, ringWith}
-use Rattle.triangulation.specs.Triangulation.{ways, tableAfter, rowsAfter}
+use Rattle.triangulation.specs.Triangulation.{ways, newRows, rowsAfter}
 use Rattle.triangulation.specs.Admissible.{admissible}
 use Rattle.triangulation.specs.Best.{worstOfWay, ringWays, chosen}
 use Rattle.tally.specs.Tally.{worstOfPatch}
@@ -28,7 +31,7 @@ use Rattle.calls.specs.declared.Removed.{Removed}
 
 -- ---- what each answer is given for
 
--- answers 1 to 8 of a call with a block and an output block: both lengths before anything in the block
+-- answers 1 to 8 and 22 of a call with a block and an output block: both lengths before anything in the block
 unfoldable pub blockTests : List ℕ → List ℕ → Tests
 blockTests block out = (1, notBlock block || notBlock out) ∷ (2, sumWrong block) ∷ bodyTests block
 
@@ -48,20 +51,29 @@ noWay site = not (any (admissible site) (ways (m site - 1)))
 unfoldable pub noneBetter : Site → Bool
 noneBetter site = every (λ t. not (worse (worstNow site) (worstOfWay site 1 t))) (ringWays site)
 
+-- 23: a marked face would go, one that has both ends
+abbrev pub markLost : Site → Bool
+markLost site = markGoes (site .a ∷ site .b ∷ []) (site .removed)
+
+-- the new rows in written order, with their marks
+abbrev pub rowsMade : Site → List Row
+rowsMade site = dressed (site .removed) (site .kept) (newRows site 1 (chosen site))
+
 -- the patch afterwards: points stay; the kept rows in order, then the new rows
 unfoldable pub patchAfter : Site → Patch
-patchAfter site = record { points = site .points; rows = tableAfter site (chosen site) }
+patchAfter site = record { points = site .points; rows = site .kept ++ rowsMade site }
 
--- answers 19, 20 and 14 to 16 of a removal: whether the ring or chain is replaced; 20: the rows that go have more than one region
+-- answers 19, 20, 23 and 14 to 16 of a removal: whether the ring or chain is replaced; 20: the rows that go have more than one region
 abbrev pub replacementTests : Site → Tests
 replacementTests site =
     (19, notFlat site)
     ∷ (20, mixed (site .removed))
+    ∷ (23, markLost site)
     ∷ (14, noRoom site)
     ∷ (15, noWay site)
     ∷ (16, noneBetter site) ∷ []
 
--- answers 13 to 16 of a removal, 19 directly after 13 and 20 directly after 19
+-- answers 13 to 16 of a removal, 19 directly after 13, then 20 and 23
 unfoldable pub removalTests : Site → Tests
 removalTests site = lengthTests site ++ replacementTests site
 
@@ -73,9 +85,9 @@ removeAnswer block out e f =
     let site = siteOf (fieldsOf block) e f in
     firstRefusal (blockTests block out ++ edgeTests orChains site e f ++ removalTests site)
 
--- each byte of the output block afterwards
+-- each byte of the output block afterwards, which has its input's version
 unfoldable pub removeBytes : List ℕ → List ℕ → ℕ → ℕ → List ℕ
-removeBytes block out e f = written (removeAnswer block out e f) (bytesOf (patchAfter (siteOf (fieldsOf block) e f))) out
+removeBytes block out e f = written (removeAnswer block out e f) (bytesOf (version block) (patchAfter (siteOf (fieldsOf block) e f))) out
 
 -- there is a page row only with answer 0 of a removal; the ring, or the chain, stands beside it
 unfoldable pub removeGives : List ℕ → List ℕ → ℕ → ℕ → Removed

@@ -1,126 +1,120 @@
--- The bytes that are written are the block of the patch. The front of a block that opens is the front of its fields written,
--- and only its byte 2 changes.
+-- A block that is begun, its rows written where they belong, and finished is the block of the patch with these rows. The front of a block
+-- that opens is the front of its fields written, and only its byte 2 changes.
 use Prim.Native.Nat.{ℕ, _+_, _-_, _*_, _≤_}
-use mathlib.Core.List.{List, [], _∷_, _++_, flatMap, append-nil, append-assoc}
+use mathlib.Core.List.{List, [], _∷_, _++_, flatMap, append-assoc}
 use mathlib.Core.Path.{_≡_, sym, ap, _∙_}
 use native.Mathlib.Omega.{arith}
-use lib.ListN.{length, take, drop, set, replicate, length-append, length-take, length-drop, take-append-drop, drop-of-length-le}
-use lib.Seq.{take-at, take-take, drop-at, drop-drop, set-append-left, length-take-le}
+use lib.Dec.{T}
+use lib.ListN.{length, take, drop, set, replicate, length-append, length-drop, length-replicate, List·getD-append}
+use lib.Seq.{getD-take, take-at, take-take, drop-at, drop-drop, drop-append-le, set-append-left, length-take-le}
+use Rattle.lists.specs.Lists.{every}
+use Rattle.lists.proofs.Numbers.{drop-zeros}
 use Rattle.volume.specs.Volume.{pointBytes}
 use Rattle.rows.specs.declared.Row.{Row}
-use Rattle.rows.specs.Rows.{rowsAt, rowSize, rowBytes, rowsIn}
-use Rattle.rows.proofs.RowsOfTables.{rows-length}
-use Rattle.layout.specs.Layout.{blockBytes, bodyBytes, theVersion, maxRows, pointsAt}
+use Rattle.rows.specs.Rows.{version, rowsAt, rowSize, rowBytes, pasted, withRows}
+use Rattle.rows.proofs.PastedRows.{pasted-behind, rows-size}
+use Rattle.layout.specs.Layout.{blockBytes, bodyBytes, maxRows, pointsAt}
 use Rattle.layout.specs.Layout.{part, fieldsOf, filled, bodyOf, sealed, bytesOf}
+use Rattle.layout.specs.Within.{isByte}
 use Rattle.block.specs.Opening.{openAnswer}
-use Rattle.layout.proofs.CellsReadBack.{point-cells, written-length, rows-written}
+use Rattle.layout.proofs.CellsReadBack.{point-cells, written-length}
 use Rattle.layout.proofs.BlockParts.{filled-length}
 use Rattle.block.proofs.RightBlocks.{right-block}
 use Rattle.layout.proofs.PatchWritten.{points-counted}
 use Rattle.body.proofs.BodyWritten.{body-written}
-use Rattle.output.specs.Steps.{tableBytes, tableWith, Writable}
+use Rattle.output.specs.Steps.{tableBytes, begun}
 use Rattle.output.specs.Output.{patchWith}
-use Rattle.output.proofs.RowsThenZeros.{table-size, table-zeros}
 
--- the counts and what follows up to the points
-abbrev head : ℕ → ℕ → List ℕ
-head points rows = filled pointsAt (theVersion ∷ points ∷ rows ∷ [])
+-- the version, the counts and what follows up to the points
+abbrev head : ℕ → ℕ → ℕ → List ℕ
+head v points rows = filled pointsAt (v ∷ points ∷ rows ∷ [])
 
--- bytes 0 to 207 of a block that opens: the head, then the points
-module _ (block : List ℕ) (opens : openAnswer block ≡ 0) where
+-- bytes 0 to 207 of a block of bytes that opens: the head, then the points
+module _ (block : List ℕ) (are : T (every isByte block)) (opens : openAnswer block ≡ 0) where
   abbrev points : List ℕ
   points = filled (rowsAt - pointsAt) (flatMap pointBytes (fieldsOf block .points))
 
   abbrev count : ℕ
   count = length (fieldsOf block .points)
 
-  front-size : (rows : ℕ) → length (head count rows ++ points) ≡ rowsAt
+  front-size : (rows : ℕ) → length (head (version block) count rows ++ points) ≡ rowsAt
   front-size rows =
       let few = right-block block opens .body .few-points in
       let size = filled-length 192 (flatMap pointBytes (fieldsOf block .points))
       (omega (arith, written-length point-cells (fieldsOf block .points), points-counted block)) in
-      length-append (head count rows) points ∙ ap (λ n. 16 + n) size
+      length-append (head (version block) count rows) points ∙ ap (λ n. 16 + n) size
 
-  front-read : take rowsAt block ≡ head count (length (fieldsOf block .rows)) ++ points
+  front-read : take rowsAt block ≡ head (version block) count (length (fieldsOf block .rows)) ++ points
   unfolding bodyOf
   front-read =
       let right = right-block block opens in
       let size = right .size in
       let rows = fieldsOf block .rows in
       sym (take-take 208 508 block (omega arith))
-      ∙ (ap (take 208) (sym (body-written block (omega arith) (right .body)))
-      ∙ take-at (head count (length rows) ++ points) (filled 300 (flatMap rowBytes rows)) 208 (front-size (length rows)))
+      ∙ (ap (take 208) (sym (body-written block (omega arith) are (right .body)))
+      ∙ take-at (head (version block) count (length rows) ++ points) (filled 300 (flatMap (rowBytes (version block)) rows)) 208
+      (front-size (length rows)))
 
-  front-set : (n : ℕ) → set (take rowsAt block) 2 n ≡ head count n ++ points
-  front-set n = ap (λ front. set front 2 n) front-read
+  block-front : length (take rowsAt block) ≡ rowsAt
+  block-front = length-take-le rowsAt block (omega (arith, right-block block opens .size))
 
--- a table whose unused rows are zero is its rows, written
-table-whole : (rows : List ℕ) (n : ℕ) → length rows ≡ tableBytes → n ≤ maxRows
-    → drop (rowSize * n) rows ≡ replicate (tableBytes - rowSize * n) 0
-    → tableWith (rowsIn rows n) ≡ rows
-table-whole rows n size few zeros =
-    let bytes = rows-written rows n (omega arith) in
-    let front = length-take-le (rowSize * n) rows (omega arith) in
-    rw (bytes, front, ← zeros) (take-append-drop (rowSize * n) rows)
+  module _ (out one : List ℕ) (size : length out ≡ blockBytes) (is-begun : one ≡ begun block out) where
+    pub begun-version : version one ≡ version block
+    begun-version =
+        ap version is-begun
+        ∙ (List·getD-append (take rowsAt block) (replicate tableBytes 0 ++ drop bodyBytes out) 0 0 (omega (arith, block-front))
+        ∙ getD-take rowsAt block 0 0 (omega arith))
 
--- a table of rows may be written
-pub table-writable : (block out : List ℕ) (rows : List Row) → openAnswer block ≡ 0 → length out ≡ blockBytes → length rows ≤ maxRows
-    → Writable block (tableWith rows) (length rows) out
-table-writable block out rows opens output few = record {
-  opens = opens;
-  output = output;
-  size = table-size rows few;
-  few = few;
-  zeros = table-zeros rows;
-}
+    pub begun-length : length one ≡ blockBytes
+    begun-length =
+        ap length is-begun ∙ simp (length-append, length-replicate, length-drop) (omega (arith, block-front, size))
 
-module _ (block rows : List ℕ) (n : ℕ) (out : List ℕ) (writable : Writable block rows n out) where
-  abbrev top : List ℕ
-  top = head (count block (writable .opens)) n ++ points block (writable .opens)
+    -- rows written into it
+    rows-in-place : (rows : List Row) → length rows ≤ maxRows
+        → withRows one 0 rows ≡ take rowsAt block ++ (filled tableBytes (flatMap (rowBytes (version block)) rows) ++ drop bodyBytes out)
+    rows-in-place rows few =
+        let bytes = flatMap (rowBytes (version block)) rows in
+        let many = rows-size (version block) rows in
+        let zeros : List ℕ = replicate tableBytes 0 in
+        let room : length bytes ≤ length zeros = simp length-replicate (omega arith) in
+        let rest = drop bodyBytes out in
+        let here : rowsAt + rowSize * 0 ≡ rowsAt = omega arith in
+        ap (λ v. pasted one (rowsAt + rowSize * 0) (flatMap (rowBytes v) rows)) begun-version
+        ∙ ap (λ k. pasted one k bytes) here
+        ∙ ap (λ t. pasted t rowsAt bytes) is-begun
+        ∙ pasted-behind (take rowsAt block) (zeros ++ rest) bytes rowsAt block-front
+        ∙ ap (λ l. take rowsAt block ++ bytes ++ l)
+        (drop-append-le (length bytes) zeros rest room ∙ ap (λ l. l ++ rest) (drop-zeros (length bytes) tableBytes))
+        ∙ rw (append-assoc (take rowsAt block) bytes (replicate (tableBytes - length bytes) 0 ++ rest),
+          ← (append-assoc bytes (replicate (tableBytes - length bytes) 0) rest))
 
-  -- bytes 0 to 207 with the number of rows, and what stands behind them
-  top-written : (behind : List ℕ) → set (take rowsAt block ++ behind) 2 n ≡ top ++ behind
-  top-written behind =
-      let size = right-block block (writable .opens) .size in
-      set-append-left (take rowsAt block) behind 2 n (omega (arith, length-take-le rowsAt block (omega arith)))
-      ∙ ap (λ front. front ++ behind) (front-set block (writable .opens) n)
-
-  -- the first 508 bytes written
-  body-whole : top ++ rows ≡ bodyOf (patchWith (fieldsOf block .points) (rowsIn rows n))
-  unfolding bodyOf
-  body-whole = rw (rows-length, table-whole rows n (writable .size) (writable .few) (writable .zeros))
-
-  -- the front and the table behind it, finished
-  pub block-finished : (rest done : List ℕ) → done ≡ sealed (take bodyBytes (set (take rowsAt block ++ (rows ++ rest)) 2 n))
-      → done ≡ bytesOf (patchWith (fieldsOf block .points) (rowsIn rows n))
-  block-finished rest done is =
-      let top-size = front-size block (writable .opens) n in
-      let body-size = length-append top rows in
-      is
-      ∙ ap (λ bytes. sealed (take bodyBytes bytes)) (top-written (rows ++ rest) ∙ sym (append-assoc top rows rest))
-      ∙ ap sealed (take-at (top ++ rows) rest bodyBytes (omega (arith, writable .size)) ∙ body-whole)
-
-  -- the front copied and the table copied behind it
-  pub both-copied : (one table two : List ℕ) → one ≡ take rowsAt block ++ drop (length (take rowsAt block)) out
-      → table ≡ rows ++ drop (length rows) (part rowsAt bodyBytes one)
-      → two ≡ take rowsAt one ++ (table ++ drop (bodyBytes - rowsAt) (drop rowsAt one))
-      → two ≡ take rowsAt block ++ (rows ++ drop (bodyBytes - rowsAt) (drop rowsAt one))
-  both-copied one table two e1 e2 e3 =
-      let size = right-block block (writable .opens) .size in
-      let is-front = length-take-le rowsAt block (omega arith) in
-      let nothing = drop-of-length-le (part rowsAt bodyBytes one) {i = length rows} (simp length-take (omega (arith, writable .size))) in
-      let is-table : table ≡ rows = e2 ∙ (ap (λ rest. rows ++ rest) nothing ∙ append-nil rows) in
-      let is-top : take rowsAt one ≡ take rowsAt block =
-      ap (take rowsAt) e1 ∙ take-at (take rowsAt block) (drop (length (take rowsAt block)) out) rowsAt is-front in
-      let rest = drop (bodyBytes - rowsAt) (drop rowsAt one) in
-      e3 ∙ ap (λ front. front ++ (table ++ rest)) is-top ∙ ap (λ middle. take rowsAt block ++ (middle ++ rest)) is-table
+    -- and finished: the block of the patch with these rows
+    pub block-finished : (rows : List Row) → length rows ≤ maxRows → (two : List ℕ) → two ≡ withRows one 0 rows → (n : ℕ) → n ≡ length rows
+        → (done : List ℕ) → done ≡ sealed (take bodyBytes (set two 2 n))
+        → done ≡ bytesOf (version block) (patchWith (fieldsOf block .points) rows)
+    unfolding bodyOf
+    block-finished rows few two t n k done d =
+        let v = version block in
+        let table = filled tableBytes (flatMap (rowBytes v) rows) in
+        let table-size = filled-length tableBytes (flatMap (rowBytes v) rows) (omega (arith, rows-size v rows)) in
+        let rest = drop bodyBytes out in
+        let top = head v count (length rows) ++ points in
+        let top-is : set (take rowsAt block) 2 n ≡ top = ap (λ front. set front 2 n) front-read ∙ ap (λ m. head v count m ++ points) k in
+        let all : set two 2 n ≡ top ++ table ++ rest =
+        ap (λ l. set l 2 n) (t ∙ rows-in-place rows few)
+        ∙ set-append-left (take rowsAt block) (table ++ rest) 2 n (omega (arith, block-front))
+        ∙ ap (λ front. front ++ (table ++ rest)) top-is
+        ∙ sym (append-assoc top table rest) in
+        d
+        ∙ ap (λ l. sealed (take bodyBytes l)) all
+        ∙ ap sealed (take-at (top ++ table) rest bodyBytes (length-append top table ∙ rw (front-size (length rows), table-size)))
 
 -- the front copied and the bytes of the rows cleared
 pub front-cleared : (block out one zeros two : List ℕ) → openAnswer block ≡ 0 → length out ≡ blockBytes
     → one ≡ take rowsAt block ++ drop (length (take rowsAt block)) out
     → zeros ≡ replicate (length (part rowsAt bodyBytes one)) 0
     → two ≡ take rowsAt one ++ (zeros ++ drop (bodyBytes - rowsAt) (drop rowsAt one))
-    → two ≡ take rowsAt block ++ (replicate tableBytes 0 ++ drop bodyBytes out)
+    → two ≡ begun block out
 front-cleared block out one zeros two opens output e1 e2 e3 =
     let size = right-block block opens .size in
     let is-front = length-take-le rowsAt block (omega arith) in

@@ -1,4 +1,2 @@
-pub mod RowsThenZeros
 pub mod RowsThatStay
 pub mod BlockAfterwards
-pub mod BlockFilledIn

@@ -1,18 +1,18 @@
 -- Which rows stay, in the words of an edge and of a face; and the rows that stay, one row of the table after the other.
-use Prim.Native.Nat.{ℕ, _+_, _*_}
+use Prim.Native.Nat.{ℕ, _+_, _*_, _≤_}
 use mathlib.Core.Bool.{Bool, true, false, not, _&&_}
-use mathlib.Core.List.{List, [], _∷_, _++_, flatMap}
+use mathlib.Core.List.{List, [], _∷_, _++_}
 use mathlib.Core.Path.{_≡_, refl, sym, ap, _∙_}
 use native.Mathlib.Numerals.{add-one}
 use native.Mathlib.Omega.{arith}
-use lib.ListN.{length, drop, length-append}
+use lib.ListN.{length, length-append}
 use Rattle.lists.specs.Lists.{every, those}
 use Rattle.lists.proofs.Lists.{those-yes, those-no, those-same}
 use Rattle.rows.specs.declared.Row.{Row}
-use Rattle.rows.specs.Rows.{rowSize, rowBytes, rowIn, rowsIn, withRows, holds, holdsEdge, holdsFace}
+use Rattle.rows.specs.Rows.{rowsAt, rowSize, rowIn, rowsIn, withRows, holds, holdsEdge, holdsFace}
 use Rattle.rows.proofs.RowsOfTables.{rows-more}
+use Rattle.rows.proofs.PastedRows.{with-length, with-more}
 use Rattle.output.specs.Output.{stays, staying}
-use Rattle.output.proofs.RowsThenZeros.{front-more}
 
 twice : (a b : Bool) → a && (b && (b && true)) ≡ a && b
 twice true true = refl
@@ -40,18 +40,23 @@ face-staying x y z rows = those-same (stays x y z) (λ row. not (holdsFace (x �
 module _ (x y z : ℕ) (table rest : List ℕ) where
   -- the rows that stay, of the first i, are k and stand at the front of a table
   abbrev pub Front : ℕ → ℕ → List ℕ → Type 0
-  Front i k rows = (k ≡ length (staying x y z (rowsIn table i)))
-      × (rows ≡ flatMap rowBytes (staying x y z (rowsIn table i)) ++ drop (rowSize * k) rest)
+  Front i k rows = (k ≡ length (staying x y z (rowsIn table i))) × (rows ≡ withRows rest 0 (staying x y z (rowsIn table i)))
+
+  -- a table with its front written is as long as it was
+  pub front-length : (i k : ℕ) (rows : List ℕ) → Front i k rows → rowsAt + rowSize * k ≤ length rest → length rows ≡ length rest
+  front-length i k rows front room =
+      ap length (front .1) ∙ with-length rest 0 (staying x y z (rowsIn table i)) (omega (arith, front .0))
 
   module _ (i k : ℕ) (rows : List ℕ) (front : Front i k rows) (row : Row) (row-is : row ≡ rowIn table i) (test : Bool)
       (test-is : test ≡ stays x y z row) where
     -- row i stays and is written behind them
-    pub stays-more : test ≡ true → (after : List ℕ) (next : ℕ) → after ≡ withRows rows k (row ∷ []) → next ≡ k + 1
+    pub stays-more : rowsAt ≤ length rest → test ≡ true → (after : List ℕ) (next : ℕ) → after ≡ withRows rows k (row ∷ []) → next ≡ k + 1
         → Front (i + 1) next after
-    stays-more e after next a n =
+    stays-more room e after next a n =
         let yes : stays x y z (rowIn table i) ≡ true = ap (stays x y z) (sym row-is) ∙ (sym test-is ∙ e) in
         let kept = staying x y z (rowsIn table i) in
-        let more = front-more kept rest rows k (front .0) (front .1) row after a in
+        let more : after ≡ withRows rest 0 (kept ++ row ∷ []) =
+        a ∙ ap (λ t. withRows t k (row ∷ [])) (front .1) ∙ with-more rest 0 k kept (row ∷ []) (omega (arith, front .0)) (omega arith) in
         let all = those-yes (stays x y z) (rowsIn table i) (rowIn table i) yes in
         rw (add-one i, rows-more table i, all, ← row-is, n) (omega (arith, length-append kept (row ∷ []), front .0), more)
 

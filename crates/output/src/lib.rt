@@ -1,13 +1,12 @@
 // The block afterwards: the rows that stay, the new rows behind them, and the sums made anew.
 ghost use mathlib.Core.Path.{_≡_};
-ghost use mathlib.Core.List.{_++_, flatMap};
 ghost use Prim.Native.Nat.{_+_, _*_, _≤_};
-ghost use lib.ListN.{length, take, drop, set, replicate};
-ghost use Rattle.rows.specs.Rows.{rowsAt, rowSize, rowBytes, rowsIn};
-ghost use Rattle.layout.specs.Layout.{blockBytes, bodyBytes, maxRows, fieldsOf, bytesOf, sealed};
+ghost use lib.ListN.{length, take, set, replicate};
+ghost use Rattle.rows.specs.Rows.{rowsAt, rowSize, rowsIn, withRows};
+ghost use Rattle.layout.specs.Layout.{blockBytes, bodyBytes, maxRows, sealed};
 ghost use Rattle.block.specs.Opening.{openAnswer};
-ghost use Rattle.output.specs.Output.{stays, staying, patchWith};
-ghost use Rattle.output.specs.Steps.{Writable, tableBytes};
+ghost use Rattle.output.specs.Output.{stays, staying};
+ghost use Rattle.output.specs.Steps.{begun};
 use layout::BODY_BYTES;
 use rows::ROWS_AT;
 use rows::Row;
@@ -25,8 +24,7 @@ fn row_stays(row: Row, x: u8, y: u8, z: u8) -> bool
 pub fn keep_others(table: &[u8], n: usize, x: u8, y: u8, z: u8, rows: &mut [u8]) -> usize
     requires { ⌜ (rowsAt + rowSize * n ≤ length (now table)) × (rowsAt + rowSize * n ≤ length (now rows)) ⌝ }
     ensures { λ r. ⌜ (r ≡ length (staying x y z (rowsIn (now (table .entry)) n)))
-        × (now (rows .exit) ≡ flatMap rowBytes (staying x y z (rowsIn (now (table .entry)) n))
-        ++ drop (rowSize * r) (now (rows .entry))) ⌝ }
+        × (now (rows .exit) ≡ withRows (now (rows .entry)) 0 (staying x y z (rowsIn (now (table .entry)) n))) ⌝ }
 {
     let mut kept: usize = 0;
     for i in 0..n {
@@ -53,7 +51,7 @@ fn clear(part: &mut [u8])
 // The block's points and no rows: the rows are then written into their place, and `finish` ends the block.
 pub fn begin(block: &[u8], out: &mut [u8])
     requires { ⌜ (openAnswer (now block) ≡ 0) × (length (now out) ≡ blockBytes) ⌝ }
-    ensures { λ _. ⌜ now (out .exit) ≡ take rowsAt (now (block .entry)) ++ (replicate tableBytes 0 ++ drop bodyBytes (now (out .entry))) ⌝ }
+    ensures { λ _. ⌜ now (out .exit) ≡ begun (now (block .entry)) (now (out .entry)) ⌝ }
 {
     layout::copy(&block[0..ROWS_AT], out);
     clear(&mut out[ROWS_AT..BODY_BYTES]);
@@ -66,14 +64,4 @@ pub fn finish(out: &mut [u8], n: usize)
 {
     out[2] = n as u8;
     layout::stamp(out);
-}
-
-// The block's points and the first n rows of a table, written as a block; unused rows are zero.
-pub fn write(block: &[u8], rows: &[u8], n: usize, out: &mut [u8])
-    requires { ⌜ Writable (now block) (now rows) n (now out) ⌝ }
-    ensures { λ _. ⌜ now (out .exit) ≡ bytesOf (patchWith (fieldsOf (now (block .entry)) .points) (rowsIn (now (rows .entry)) n)) ⌝ }
-{
-    layout::copy(&block[0..ROWS_AT], out);
-    layout::copy(rows, &mut out[ROWS_AT..BODY_BYTES]);
-    finish(out, n);
 }

@@ -1,7 +1,7 @@
 //! What both sides are called with: rows, fractions and blocks of the generator's cases, and rings made to measure.
 
-use compare::gen::{cases, ring_in_table, Case, Random};
-use compare::model::limits::{BLOCK_BYTES, MAX_POINTS, MAX_ROWS};
+use compare::gen::{cases, freely_marked, ring_in_table, shell_marked, Case, Random};
+use compare::model::limits::{BLOCK_BYTES, MAX_POINTS, MAX_ROWS, PLAIN};
 use compare::model::{answer, open, Call, Patch};
 use compare::quick;
 
@@ -33,6 +33,25 @@ impl Coordinates {
     }
 }
 
+/// Blocks of version 1, or the same in version 2 with marks on faces that stay.
+#[derive(Clone, Copy, PartialEq, Eq)]
+pub enum Version {
+    Plain,
+    Marked,
+}
+
+impl Version {
+    pub const BOTH: [Version; 2] = [Version::Plain, Version::Marked];
+
+    /// What a line's name has behind it.
+    pub fn name(self) -> &'static str {
+        match self {
+            Version::Plain => "",
+            Version::Marked => ", version 2",
+        }
+    }
+}
+
 pub struct Inputs {
     /// The four points of a row.
     pub corners: Vec<[u8; 12]>,
@@ -44,6 +63,8 @@ pub struct Inputs {
     pub close_pairs: Vec<[Fraction; 2]>,
     /// Blocks with 64 points and 60 rows that open.
     pub full_blocks: Vec<Vec<u8>>,
+    /// The same in version 2, with some faces marked.
+    pub full_marked: Vec<Vec<u8>>,
 }
 
 impl Inputs {
@@ -54,13 +75,19 @@ impl Inputs {
             pairs: vec![],
             close_pairs: vec![],
             full_blocks: vec![],
+            full_marked: vec![],
         };
+        let random = &mut Random::of_case(SEED, 0);
         for case in cases(SEED, CASES) {
             let patch = block_of(case).and_then(|block| coordinates.patch(&block));
-            let Some(patch) = patch else { continue };
+            let Some(patch) = patch.filter(|patch| patch.version == PLAIN) else {
+                continue;
+            };
             inputs.add(&patch);
             if patch.points.len() == MAX_POINTS && patch.rows.len() == MAX_ROWS {
-                inputs.full_blocks.push(patch.to_bytes().to_vec());
+                let block = patch.to_bytes().to_vec();
+                inputs.full_marked.push(freely_marked(random, &block));
+                inputs.full_blocks.push(block);
             }
         }
         inputs
@@ -81,6 +108,17 @@ impl Inputs {
 /// Blocks of `rows` rows with a ring of m whose removal has the answer; with more rows than there is room for, it would
 /// have this answer if there were room.
 pub fn edges(coordinates: Coordinates, m: usize, rows: usize, answer: u32) -> Vec<Edge> {
+    edges_of(Version::Plain, coordinates, m, rows, answer)
+}
+
+/// The same blocks in this version.
+pub fn edges_of(
+    version: Version,
+    coordinates: Coordinates,
+    m: usize,
+    rows: usize,
+    answer: u32,
+) -> Vec<Edge> {
     let blocked = answer == answer::NOT_ADMISSIBLE;
     let mut random = Random::of_case(SEED, (100 * m + rows) as u64);
     let drawn = std::iter::repeat_with(|| ring_in_table(&mut random, m, rows, blocked));
@@ -93,7 +131,15 @@ pub fn edges(coordinates: Coordinates, m: usize, rows: usize, answer: u32) -> Ve
         let number = outcome.err().unwrap_or(answer::DONE);
         number == answer || number == answer::ROOM
     });
-    right.take(EDGES).collect()
+    let right = right.take(EDGES);
+    match version {
+        Version::Plain => right.collect(),
+        Version::Marked => {
+            let random = &mut Random::of_case(SEED, 1);
+            let marked = |(block, ends): Edge| (shell_marked(random, &block, &ends), ends);
+            right.map(marked).collect()
+        }
+    }
 }
 
 fn block_of(case: Case) -> Option<Vec<u8>> {

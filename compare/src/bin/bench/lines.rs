@@ -1,6 +1,6 @@
 //! What is measured, line by line.
 
-use crate::inputs::{edges, Coordinates, Edge, Fraction, Inputs, SEED};
+use crate::inputs::{edges, edges_of, Coordinates, Edge, Fraction, Inputs, Version, SEED};
 use crate::probes;
 use crate::timing::Line;
 use compare::model::answer;
@@ -83,21 +83,33 @@ fn inner_lines(inputs: &Inputs) -> Vec<Line> {
 fn block_lines(coordinates: Coordinates, inputs: &Inputs) -> Vec<Line> {
     let mut from_kernel = [0; SUMMARY_NUMBERS];
     let mut from_rust = [0; SUMMARY_NUMBERS];
-    vec![
+    let few = |version: Version| {
         Line::of(
-            format!("opening a block of {FEW_ROWS} rows"),
+            format!("opening a block of {FEW_ROWS} rows{}", version.name()),
             Some(GOAL),
-            &edges(coordinates, RINGS[0], FEW_ROWS, answer::DONE),
+            &edges_of(version, coordinates, RINGS[0], FEW_ROWS, answer::DONE),
             |(block, _)| kernel::open(block).into(),
             |(block, _)| quick::open(block).into(),
-        ),
+        )
+    };
+    let full = |version: Version| {
+        let blocks = match version {
+            Version::Plain => &inputs.full_blocks,
+            Version::Marked => &inputs.full_marked,
+        };
         Line::of(
-            "opening a full block".to_string(),
+            format!("opening a full block{}", version.name()),
             Some(GOAL),
-            &inputs.full_blocks,
+            blocks,
             |block| kernel::open(block).into(),
             |block| quick::open(block).into(),
-        ),
+        )
+    };
+    vec![
+        few(Version::Plain),
+        few(Version::Marked),
+        full(Version::Plain),
+        full(Version::Marked),
         Line::of(
             "summary of a full block".to_string(),
             Some(GOAL),
@@ -133,12 +145,13 @@ fn table_line(coordinates: Coordinates, m: usize) -> Line {
 
 /// A removal, and a few of the bytes it wrote; all of them are compared once, outside the rounds.
 fn removal_line(
+    version: Version,
     coordinates: Coordinates,
     m: usize,
     rows: usize,
     (outcome, number): (&str, u32),
 ) -> Line {
-    let edges = edges(coordinates, m, rows, number);
+    let edges = edges_of(version, coordinates, m, rows, number);
     let mut from_kernel = [0; BLOCK_BYTES];
     let mut from_rust = [0; BLOCK_BYTES];
     for (block, ends) in &edges {
@@ -148,7 +161,7 @@ fn removal_line(
         assert_eq!(answer, number);
     }
     Line::of(
-        format!("remove, m = {m}, {rows} rows, {outcome}"),
+        format!("remove, m = {m}, {rows} rows, {outcome}{}", version.name()),
         Some(GOAL),
         &edges,
         |(block, ends): &Edge| {
@@ -194,7 +207,8 @@ fn removal_lines(coordinates: Coordinates) -> Vec<Line> {
     for m in RINGS {
         for rows in [FEW_ROWS, most_rows(m)] {
             for outcome in OUTCOMES {
-                lines.push(removal_line(coordinates, m, rows, outcome));
+                let of_version = |version| removal_line(version, coordinates, m, rows, outcome);
+                lines.extend(Version::BOTH.map(of_version));
             }
         }
     }

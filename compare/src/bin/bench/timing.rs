@@ -104,10 +104,10 @@ impl Line {
 
     pub fn print_head() {
         println!(
-            "| Call                                 |  Kernel |    Rust | Ratio | Goal        |"
+            "| Call                                            |  Kernel |    Rust | Ratio | Goal        |"
         );
         println!(
-            "|--------------------------------------|--------:|--------:|------:|-------------|"
+            "|-------------------------------------------------|--------:|--------:|------:|-------------|"
         );
     }
 
@@ -120,7 +120,7 @@ impl Line {
             Some(goal) => format!("{goal:.1}, missed"),
         };
         let name = &self.name;
-        println!("| {name:<36} | {kernel:>7.1} | {rust:>7.1} | {ratio:>5.2} | {goal:<11} |");
+        println!("| {name:<47} | {kernel:>7.1} | {rust:>7.1} | {ratio:>5.2} | {goal:<11} |");
     }
 }
 

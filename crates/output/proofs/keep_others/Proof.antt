@@ -1,14 +1,13 @@
 -- The invariant of `keep_others`: the rows that stay, of the first i, stand at the front of the scratch table.
 use Prim.Native.Nat.{_≤_, _-_}
-use mathlib.Core.List.{flatMap}
 use mathlib.Core.Logic.{⊎-elim}
 use mathlib.Core.Path.{_≡_, refl, _∙_}
 use native.Mathlib.Omega.{arith}
 use borrow.Author.Needs.{needs}
 use Rattle.lists.specs.Lists.{those, numbersFrom}
 use Rattle.rows.specs.Rows.{rowsIn}
-use Rattle.output.proofs.RowsThenZeros.{front-size}
-use Rattle.output.proofs.RowsThatStay.{Front, stays-more, goes-more}
+use Rattle.rows.proofs.PastedRows.{with-none}
+use Rattle.output.proofs.RowsThatStay.{Front, front-length, stays-more, goes-more}
 use Rattle.output.proofs.keep_others.Statement.{statement}
 use Rattle.output.proofs.keep_others.Tie as tie
 
@@ -22,8 +21,8 @@ abbrev μ-loop : tie.MeasureT-loop
 μ-loop table n x y z rows₀ kept₀ i₀ rows kept i = n - i
 
 loop-holds : tie.Need-loop-holds Inv-loop μ-loop
-unfolding flatMap rowsIn numbersFrom those
-loop-holds c = (omega arith, omega arith, (refl, refl))
+unfolding rowsIn numbersFrom those
+loop-holds c = (omega arith, omega arith, (refl, with-none (c .before .before .args .rows .now) 0 refl))
 
 row-in-requires : tie.Need-row-in-requires Inv-loop μ-loop
 row-in-requires c κs = omega arith
@@ -34,7 +33,9 @@ row-stays-requires c κs = search needs
 put-row-requires : tie.Need-put-row-requires Inv-loop μ-loop
 put-row-requires c κs =
     let at = c .before .before .before .before .before in
-    let size = front-size _ _ _ _ (at .loop .inv .2 .0) (at .loop .inv .2 .1) (omega arith) in
+    let a = at .before .before .before .args in
+    let size = front-length (a .x) (a .y) (a .z) (a .table .now) (a .rows .now) (at .loop .i) (at .loop .kept) (at .loop .rows) (at .loop .inv .2)
+    (omega (arith, at .loop .inv .1)) in
     omega arith
 
 add-kept : tie.Need-add-kept Inv-loop μ-loop
@@ -60,7 +61,7 @@ loop-again c =
     let rest = args .rows .now in
     ⊎-elim
     (λ w.
-    let more = stays-more x y z table rest i (at .loop .kept) (at .loop .rows) (at .loop .inv .2) _ row _ stayed (w .0 .taken)
+    let more = stays-more x y z table rest i (at .loop .kept) (at .loop .rows) (at .loop .inv .2) _ row _ stayed (omega arith) (w .0 .taken)
     (c .if1 .rows) (c .if1 .kept)
     (w .5 ∙ w .2 .ensures) (w .6) in
     (omega arith, omega (arith, w .6), more))
@@ -74,7 +75,9 @@ loop-again c =
 same-length : tie.Need-same-length Inv-loop μ-loop
 same-length c =
     let at = c .before in
-    front-size _ _ _ _ (at .loop .inv .2 .0) (at .loop .inv .2 .1) (omega arith)
+    let a = at .before .before .before .args in
+    front-length (a .x) (a .y) (a .z) (a .table .now) (a .rows .now) (at .loop .i) (at .loop .kept) (at .loop .rows) (at .loop .inv .2)
+    (omega (arith, at .loop .inv .1))
 
 returns : tie.Need-returns Inv-loop μ-loop
 returns c =
