@@ -24,10 +24,11 @@ use Rattle.mesh.proofs.MeshRuleStated.{fit-proper, keeps-fits, keeps-hits}
 use Rattle.mesh.proofs.EvenFaces.{even-uses, even-proper}
 use Rattle.layout.specs.Layout.{Patch}
 use Rattle.walk.specs.Walk.{smallest}
-use Rattle.calls.specs.Flipping.{Pair, pairOf, threeRows}
-use Rattle.marking.specs.Marking.{agree, markGoes, dressed}
+use Rattle.calls.specs.Flipping.{Pair, pairOf, threeRows, patchAfter23}
+use Rattle.marking.specs.Marking.{agree, markGoes, newMark}
 use Rattle.kept_marks.specs.Replacing.{hasAll, Apart, NoMarkGoes, MarksKept}
 use Rattle.kept_marks.proofs.AgreementTested.{agree-stated}
+use Rattle.kept_marks.proofs.DressedRows.{dress-keeps}
 use Rattle.kept_marks.proofs.PartedTables.{those-parted, keeps-different}
 use Rattle.kept_marks.proofs.MarksReplaced.{marks-kept}
 use Rattle.kept_marks.proofs.NumbersOfFaces.{at-0, at-1, at-2, turned-in, reversed-in, either-holds, all-in, in-all, none-goes}
@@ -224,12 +225,11 @@ module _ (count : ℕ) (patch : Patch) (face : List ℕ) (rule : T (keepsMeshRul
 
   -- ---- the flip
 
-  pub flip-marks : T (agree (patch .rows)) → T (keepsMeshRule count (pairOf patch face .kept ++ threeRows (pairOf patch face) face))
-      → markGoes face (pairOf patch face .removed) ≡ false
-      → MarksKept (patch .rows) (pairOf patch face .kept ++ dressed (pairOf patch face .removed) (pairOf patch face .kept)
-      (threeRows (pairOf patch face) face))
-  unfolding pairOf
+  pub flip-marks : T (agree (patch .rows)) → T (keepsMeshRule count (patchAfter23 patch face .rows))
+      → markGoes face (pairOf patch face .removed) ≡ false → MarksKept (patch .rows) (patchAfter23 patch face .rows)
+  unfolding pairOf patchAfter23
   flip-marks agrees keeps clear =
+      let plain = subst T (dress-keeps (newMark (pair .removed) (pair .kept)) count (pair .kept) new) keeps in
       marks-kept (patch .rows) (pair .removed) (pair .kept) new (those-parted (holdsFace face) (patch .rows))
       (keeps-hits count (patch .rows) rule) (agree-stated (patch .rows) agrees)
-      (keeps-hits count (pair .kept ++ new) keeps) flip-apart (flip-stays clear) (keeps-different count (pair .kept ++ new) keeps)
+      (keeps-hits count (pair .kept ++ new) plain) flip-apart (flip-stays clear) (keeps-different count (pair .kept ++ new) plain)
