@@ -7,25 +7,24 @@ use native.Mathlib.Omega.{arith}
 use borrow.Author.Tests.{eqb-true, not-false}
 use lib.Dec.{T}
 use lib.ListN.{length, take-append-drop}
-use lib.Seq.{take-all}
 use Rattle.lists.specs.Lists.{every}
 use Rattle.lists.proofs.Tests.{neither-is}
 use Rattle.lists.proofs.Lists.{every-take}
 use Rattle.answers.specs.Answers.{Tests}
 use Rattle.answers.proofs.ByNumber.{testOf, passes, both-passed}
 use Rattle.rows.specs.Rows.{version, rowsAt}
-use Rattle.layout.specs.Layout.{Patch, bodyBytes, maxPoints, maxRows, pointsAt, pointCount, coordinatesOf}
-use Rattle.layout.specs.Layout.{fieldsOf, bodyOf, sumBytes, bytesOf}
+use Rattle.layout.specs.Layout.{Patch, bodyBytes, pointsAt, pointCount, coordinatesOf}
+use Rattle.layout.specs.Layout.{fieldsOf, bodyOf, sumBytes, sealed, bytesOf}
 use Rattle.layout.specs.Within.{isByte}
 use Rattle.layout.proofs.BytesOfSlices.{part-bytes}
-use Rattle.layout.proofs.PatchWritten.{version-at, body-read, room-for, points-counted, rows-counted, points-bytes, rows-fit, read-written, bytes-written}
+use Rattle.layout.proofs.PatchWritten.{version-at, front-fields, room-for, points-counted, rows-counted, points-bytes, rows-fit, read-written, bytes-written}
 use Rattle.body.specs.Body.{bodyTests, RightBody}
 use Rattle.body.proofs.RightBodies.{right-body}
 use Rattle.body.proofs.BodyWritten.{body-written}
 use Rattle.block.specs.Opening.{notBody, notBlock, openAnswer, sealAnswer, sealBytes}
 use Rattle.block.specs.Holding.{Holdable, Versioned, Opening, Bijection}
 use Rattle.block.proofs.RightBlocks.{right-block, opens}
-use Rattle.block.proofs.RightWritten.{bytes-right}
+use Rattle.block.proofs.RightWritten.{bytes-right, sealed-right}
 
 -- what is written of a patch that keeps the mesh rule and whose marks agree opens
 pub opens-written : (v : ℕ) (patch : Patch) → Holdable v patch → openAnswer (bytesOf v patch) ≡ 0
@@ -88,26 +87,12 @@ seal-right body out e =
     let size : length body ≡ bodyBytes = eqb-true _ _ (not-false _ is-body) in
     (size, right-body body (omega arith) rest-passed)
 
--- answer 0 of sealing bytes writes the block of the body's fields, in its version
-pub seal-written : (body out : List ℕ) → T (every isByte body) → sealAnswer body out ≡ 0
-    → sealBytes body out ≡ bytesOf (version body) (fieldsOf body)
-unfolding sealBytes
-seal-written body out are e =
-    let (size, right) = seal-right body out e in
-    let same = body-written body (omega arith) are right ∙ take-all bodyBytes body (omega arith) in
-    rw (e, same)
-
--- that block opens, and holds these fields
-pub seal-opens : (body out : List ℕ) → T (every isByte body) → sealAnswer body out ≡ 0
+-- answer 0 of sealing writes a block that opens, and holds the body's fields
+pub seal-opens : (body out : List ℕ) → sealAnswer body out ≡ 0
     → (openAnswer (sealBytes body out) ≡ 0) × (fieldsOf (sealBytes body out) ≡ fieldsOf body)
-seal-opens body out are e =
-    let right = seal-right body out e .1 in
-    let patch = fieldsOf body in
-    let v = version body in
-    let points : length (patch .points) ≤ maxPoints = rw (points-counted body) (right .few-points) in
-    let rows : length (patch .rows) ≤ maxRows = rw (rows-counted body) (right .few-rows) in
-    let fit = room-for v (patch .rows) (rows-fit body are) in
-    rw (seal-written body out are e) (
-      opens (bytesOf v patch) (bytes-right v patch points rows (right .version-is) fit (right .rule) (right .agrees)),
-      body-read v patch points rows fit (sumBytes (bodyOf v patch)),
-    )
+unfolding sealBytes
+seal-opens body out e =
+    let (size, right) = seal-right body out e in
+    let sums = sumBytes body in
+    let room : bodyBytes ≤ length body = omega arith in
+    rw e (opens (sealed body) (sealed-right body size right), front-fields body sums room (right .few-rows))

@@ -6,7 +6,7 @@ use mathlib.Core.List.{List, [], _∷_, _++_, flatMap}
 use mathlib.Core.Path.{_≡_, refl, sym, ap, _∙_}
 use native.Mathlib.Omega.{arith}
 use lib.Dec.{T}
-use lib.ListN.{length, take}
+use lib.ListN.{length, take, List·getD-append}
 use Rattle.lists.specs.Lists.{every}
 use Rattle.volume.specs.Volume.{pointBytes}
 use Rattle.volume.proofs.PointsInBytes.{points-length}
@@ -19,7 +19,7 @@ use Rattle.layout.specs.Within.{isByte}
 use Rattle.layout.proofs.CellsReadBack.{point-cells, row-cells, roomy, written-length}
 use Rattle.layout.proofs.BlockParts.{part-cut, zero-behind, filled-behind}
 use Rattle.layout.proofs.PatchWritten.{coordinates-at, table-at, points-at, rows-at, version-at, zeros-at, body-read}
-use Rattle.layout.proofs.PatchWritten.{body-room, points-counted, rows-counted, points-bytes, rows-bytes}
+use Rattle.layout.proofs.PatchWritten.{body-room, front-part, front-fields, points-counted, rows-counted, points-bytes, rows-bytes}
 use Rattle.body.specs.Body.{numberWrong, faceTwice, marksDisagree, keepsRule, RightBody}
 
 -- ---- a written patch
@@ -102,3 +102,23 @@ module _ (block : List ℕ) (room : bodyBytes ≤ length block) (are : T (every 
       (ap (filled 300) (rows-bytes block room are (right .few-rows))
       ∙ filled-behind 208 508 (5 * rowCount block) block room (omega (arith, right .few-rows)) (right .zero-rows))
       ∙ three-parts block
+
+-- a right body stays one with anything behind it
+pub front-right : (body rest : List ℕ) → bodyBytes ≤ length body → RightBody body → RightBody (body ++ rest)
+front-right body rest room right =
+    let fields = front-fields body rest room (right .few-rows) in
+    let points : pointCount (body ++ rest) ≡ pointCount body = List·getD-append body rest 0 1 (omega arith) in
+    let rows : rowCount (body ++ rest) ≡ rowCount body = List·getD-append body rest 0 2 (omega arith) in
+    let own : version (body ++ rest) ≡ version body = List·getD-append body rest 0 0 (omega arith) in
+    let few-points = right .few-points in
+    let few-rows = right .few-rows in
+    record {
+      version-is = rw own (right .version-is);
+      few-points = rw points few-points;
+      few-rows = rw rows few-rows;
+      zeros = front-part body rest room 3 16 (omega arith) (omega arith) ∙ right .zeros;
+      zero-points = rw points (front-part body rest room (16 + 3 * pointCount body) 208 (omega arith) (omega arith) ∙ right .zero-points);
+      zero-rows = rw rows (front-part body rest room (208 + 5 * rowCount body) 508 (omega arith) (omega arith) ∙ right .zero-rows);
+      rule = rw fields (right .rule);
+      agrees = rw fields (right .agrees);
+    }

@@ -1,7 +1,7 @@
 -- New rows written plain behind the kept ones and then dressed in place: what stands there in the end is the dressed ones. A block has room for
 -- both, as the new rows have the region of rows that were read off it, and no marks but those of its rows.
 use Prim.Native.Nat.{ℕ, _+_, _-_, _*_, _≤_, _<_}
-use mathlib.Core.Bool.{Bool, true, false, cond, not, _&&_, _||_}
+use mathlib.Core.Bool.{Bool, true, false, cond, not}
 use mathlib.Core.List.{List, [], _∷_, _++_, map, flatMap, append-assoc, List·Memᴰ, Memᴰ·of-map}
 use mathlib.Core.Option.{Option, none, some, Option·getD}
 use mathlib.Core.Path.{_≡_, refl, sym, ap, _∙_, subst}
@@ -10,7 +10,7 @@ use lib.Dec.{T, eqb, ltb}
 use lib.ListN.{length, getD, take, drop, length-append, length-map}
 use lib.Seq.{drop-at, take-at, length-take-le}
 use Rattle.lists.specs.Lists.{every, any, numbersFrom, first}
-use Rattle.lists.proofs.Tests.{and-l, and-r, and-i, no-is}
+use Rattle.lists.proofs.Tests.{no-is}
 use Rattle.lists.proofs.Lists.{every-i, every-both, first-some, not-any}
 use Rattle.rows.specs.declared.Row.{Row}
 use Rattle.rows.specs.declared.Labels.{Labels}
@@ -104,9 +104,9 @@ plain-room : (v : ℕ) (l : Labels) → T (hasRoomFor v l) → T (hasRoomFor v (
 unfolding hasRoomFor
 plain-room v l = go (eqb v plainVersion)
   where
-    go : (b : Bool) → T (cond b (ltb (l .region) 256 && sameMarks (l .marks) noMarks) (ltb (l .region) fourBits))
-        → T (cond b (ltb (l .region) 256 && sameMarks noMarks noMarks) (ltb (l .region) fourBits))
-    go true h = and-i (ltb (l .region) 256) true (and-l (ltb (l .region) 256) (sameMarks (l .marks) noMarks) h) tt
+    go : (b : Bool) → T (cond b (sameMarks (l .marks) noMarks) (ltb (l .region) fourBits))
+        → T (cond b (sameMarks noMarks noMarks) (ltb (l .region) fourBits))
+    go true h = tt
     go false h = h
 
 -- for region 0
@@ -114,7 +114,7 @@ zero-room : (v : ℕ) → T (hasRoomFor v (record { region = 0; marks = noMarks 
 unfolding hasRoomFor
 zero-room v = go (eqb v plainVersion)
   where
-    go : (b : Bool) → T (cond b (ltb 0 256 && sameMarks noMarks noMarks) (ltb 0 fourBits))
+    go : (b : Bool) → T (cond b (sameMarks noMarks noMarks) (ltb 0 fourBits))
     go true = tt
     go false = tt
 
@@ -154,7 +154,7 @@ module _ (v : ℕ) (removed kept new : List Row) (fit : (row : Row) → List·Me
   first-unmarked : (row : Row) → eqb v plainVersion ≡ true → T (roomy v row) → row .marks ≡ noMarks
   unfolding hasRoomFor
   first-unmarked row e h =
-      same-marks (row .marks) noMarks (and-r (ltb (row .region) 256) (sameMarks (row .marks) noMarks) (rw e at h))
+      same-marks (row .marks) noMarks (rw e at h)
 
   none-marked : (rows : List Row) → ((row : Row) → List·Memᴰ row rows → T (roomy v row)) → eqb v plainVersion ≡ true
       → (f : Face) → any (marks f) rows ≡ false
@@ -178,12 +178,10 @@ module _ (v : ℕ) (removed kept new : List Row) (fit : (row : Row) → List·Me
   dressed-roomy row m = go (eqb v plainVersion) refl (plain-roomy row m)
     where
       go : (b : Bool) → eqb v plainVersion ≡ b → T (roomy v row)
-          → T (cond b (ltb (row .region) 256 && sameMarks (dressBy (newMark removed kept) row .marks) noMarks) (ltb (row .region) fourBits))
+          → T (cond b (sameMarks (dressBy (newMark removed kept) row .marks) noMarks) (ltb (row .region) fourBits))
       go true e h =
-          let fits = and-l (ltb (row .region) 256) (sameMarks (row .marks) noMarks) (rw e at h) in
           let none = no-new-mark e in
-          rw (none (row .q, row .r, row .s), none (row .p, row .s, row .r), none (row .p, row .q, row .s), none (row .p, row .r, row .q))
-          (and-i (ltb (row .region) 256) true fits tt)
+          rw (none (row .q, row .r, row .s), none (row .p, row .s, row .r), none (row .p, row .q, row .s), none (row .p, row .r, row .q)) tt
       go false e h = rw e at h
 
   pub room-dressed : T (every (roomy v) (kept ++ dressed removed kept new))

@@ -87,7 +87,7 @@ pub row-cells : (version : ℕ) → Cells rowSize (storedRow version) (rowBytes 
 unfolding storedRow numbersFrom
 row-cells version = record {
   size = λ row. refl;
-  front = λ row fit rest. let e = written-read version (labels row) fit .0 in rw e;
+  front = λ row fit rest. let e = written-read version (labels row) fit in rw e;
   next = λ table i. rw (byte-next 5 i 0 table, byte-next 5 i 1 table, byte-next 5 i 2 table, byte-next 5 i 3 table, byte-next 5 i 4 table);
   whole = λ table are h. rw (read-written version (getD table 4 0) (byte-below table are 4)) (map-numbers-take 5 table h);
 }

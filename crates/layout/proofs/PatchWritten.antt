@@ -1,28 +1,30 @@
 -- What is written of a patch: where each part stands in the bytes, that it holds the patch, and that it is 512 bytes. Points and rows are
 -- cells, and what is beyond the counts is zero.
 use Prim.Native.Nat.{ℕ, _+_, _-_, _*_, _≤_, _<_}
-use mathlib.Core.Bool.{true}
+use mathlib.Core.Bool.{true, _&&_}
 use mathlib.Core.List.{List, [], _∷_, _++_, flatMap, append-assoc, List·Memᴰ·not-nil}
 use mathlib.Core.Logic.{_⊎_, inl, inr}
 use mathlib.Core.Path.{_≡_, refl, sym, ap, _∙_}
 use native.Mathlib.Omega.{arith}
 use borrow.Author.Tests.{lt-ltb}
-use lib.Dec.{T, eqb, eqb→eq, lt→ltb}
-use lib.ListN.{length, take, drop, replicate, length-append}
-use lib.Seq.{drop-at, take-take}
-use Rattle.lists.specs.Lists.{every}
+use lib.Dec.{T, eqb, eqb→eq, lt→ltb, ltb→lt}
+use lib.ListN.{length, take, drop, replicate, length-append, length-drop, List·getD-append}
+use lib.Seq.{drop-at, take-take, drop-append-le, take-append-le}
+use Rattle.lists.specs.Lists.{every, numbersFrom}
 use Rattle.lists.proofs.Tests.{and-l, and-r, and-i, or-e}
 use Rattle.lists.proofs.Lists.{every-at, every-i, every-both, every-replicate}
 use Rattle.lists.proofs.Places.{in-cases}
+use Rattle.lists.proofs.Numbers.{numbers-e}
+use Rattle.lists.proofs.Images.{map-same}
 use Rattle.volume.specs.Volume.{pointSize, pointBytes}
 use Rattle.volume.proofs.PointsInBytes.{points-length}
 use Rattle.rows.specs.declared.Row.{Row}
 use Rattle.rows.specs.Labels.{plainVersion, markedVersion, labelByte}
-use Rattle.rows.specs.Rows.{version, rowsAt, rowSize, rowsIn, labels, rowBytes, numbers}
-use Rattle.rows.proofs.LabelsReadBack.{written-read as labels-written}
-use Rattle.rows.proofs.RowsOfTables.{rows-length, rows-room, rows-bytes as rows-bytes-of}
+use Rattle.rows.specs.Rows.{version, rowsAt, rowSize, storedRow, rowIn, rowsIn, labels, rowBytes, numbers}
+use Rattle.rows.proofs.LabelsReadBack.{written-byte}
+use Rattle.rows.proofs.RowsOfTables.{rows-length, row-at, among-rows, row-region, rows-room, rows-bytes as rows-bytes-of}
 use Rattle.layout.specs.Layout.{Patch, bodyBytes, blockBytes, isVersion, maxPoints, maxRows, zerosAt, pointsAt}
-use Rattle.layout.specs.Layout.{pointCount, rowCount, part, coordinatesOf, tableOf, fieldsOf, filled, bodyOf, sumBytes, bytesOf}
+use Rattle.layout.specs.Layout.{byte, pointCount, rowCount, part, coordinatesOf, tableOf, fieldsOf, filled, bodyOf, sumBytes, bytesOf}
 use Rattle.layout.specs.Within.{isByte, rowFits, Within}
 use Rattle.layout.proofs.CellsReadBack.{point-cells, row-cells, roomy, written-length, points-read, rows-read, points-written, rows-written}
 use Rattle.layout.proofs.BytesOfSlices.{byte-below, part-bytes}
@@ -116,7 +118,7 @@ module _ (v : ℕ) (patch : Patch) (few-points : length (patch .points) ≤ maxP
 -- there is room for the region and the marks of each row
 pub room-for : (v : ℕ) (rows : List Row) → T (every (rowFits v) rows) → T (every (roomy v) rows)
 room-for v rows fit =
-    every-i (roomy v) rows (λ row m. and-r (every isByte (numbers row)) (roomy v row) (every-at (rowFits v) rows fit m))
+    every-i (roomy v) rows (λ row m. and-r (every isByte (numbers row) && isByte (row .region)) (roomy v row) (every-at (rowFits v) rows fit m))
 
 -- opening what was written of a patch within the limits gives the patch
 pub read-written : (v : ℕ) (patch : Patch) → Within v patch → fieldsOf (bytesOf v patch) ≡ patch
@@ -146,8 +148,11 @@ row-written : (v : ℕ) (row : Row) → T (rowFits v row) → T (every isByte (r
 unfolding every
 row-written v row fit =
     let four = every isByte (numbers row) in
-    every-both isByte (numbers row) (labelByte v (labels row) ∷ []) (and-l four (roomy v row) fit)
-    (and-i (isByte (labelByte v (labels row))) true (lt→ltb _ 256 (labels-written v (labels row) (and-r four (roomy v row) fit) .1)) tt)
+    let small = and-l (four && isByte (row .region)) (roomy v row) fit in
+    let byte = written-byte v (labels row) (ltb→lt (row .region) 256 (and-r four (isByte (row .region)) small))
+    (and-r (four && isByte (row .region)) (roomy v row) fit) in
+    every-both isByte (numbers row) (labelByte v (labels row) ∷ []) (and-l four (isByte (row .region)) small)
+    (and-i (isByte (labelByte v (labels row))) true (lt→ltb _ 256 byte) tt)
 
 rows-in-bytes : (v : ℕ) (rows : List Row) → T (every (rowFits v) rows) → T (every isByte (flatMap (rowBytes v) rows))
 unfolding flatMap every
@@ -183,13 +188,17 @@ pub rows-fit : (block : List ℕ) → T (every isByte block) → T (every (rowFi
 unfolding fieldsOf
 rows-fit block are =
     let n = rowCount block in
+    let below = byte-below block are in
     every-i (rowFits (version block)) (rowsIn block n) (λ row m.
-      let b = rows-bytes-of block (byte-below block are) n row m in
-      and-i (every isByte (numbers row)) (roomy (version block) row)
+      let b = rows-bytes-of block below n row m in
+      let (i, h, e) = among-rows block n m in
+      and-i (every isByte (numbers row) && isByte (row .region)) (roomy (version block) row)
+      (and-i (every isByte (numbers row)) (isByte (row .region))
       (every-i isByte (numbers row) (λ x k. lt→ltb x 256
         (in-cases k (λ e. rw e (b .byte-p)) λ k. in-cases k (λ e. rw e (b .byte-q)) λ k. in-cases k (λ e. rw e (b .byte-r)) λ k.
         in-cases k (λ e. rw e (b .byte-s)) λ k. absurd (List·Memᴰ·not-nil k))))
-      (rows-room block (byte-below block are) n row m))
+      (lt→ltb (row .region) 256 (rw e (row-region block below i))))
+      (rows-room block n row m))
 
 module _ (block : List ℕ) (room : bodyBytes ≤ length block) (are : T (every isByte block)) where
   -- the points and the rows of a block with counts within the limits, written, are the bytes that they were read from
@@ -206,3 +215,26 @@ module _ (block : List ℕ) (room : bodyBytes ≤ length block) (are : T (every 
   rows-bytes few =
       rows-written block are (rowCount block) (omega arith)
       ∙ sym (take-take (rowSize * rowCount block) (bodyBytes - rowsAt) (drop rowsAt block) (omega arith))
+
+-- what is read off the first bytes does not see those behind them
+module _ (body rest : List ℕ) (room : bodyBytes ≤ length body) where
+  front-byte : (i : ℕ) → i < bodyBytes → byte (body ++ rest) i ≡ byte body i
+  front-byte i h = List·getD-append body rest 0 i (omega arith)
+
+  pub front-part : (i j : ℕ) → i ≤ j → j ≤ bodyBytes → part i j (body ++ rest) ≡ part i j body
+  front-part i j h k =
+      ap (take (j - i)) (drop-append-le i body rest (omega arith)) ∙ take-append-le (j - i) (drop i body) rest (simp length-drop (omega arith))
+
+  front-row : (i : ℕ) → i < maxRows → rowIn (body ++ rest) i ≡ rowIn body i
+  unfolding rowIn storedRow
+  front-row i h =
+      let at : (j : ℕ) → j < rowSize → byte (drop rowsAt (body ++ rest)) (rowSize * i + j) ≡ byte (drop rowsAt body) (rowSize * i + j) = λ j l.
+      row-at (body ++ rest) i j ∙ front-byte (rowsAt + rowSize * i + j) (omega arith) ∙ sym (row-at body i j) in
+      rw (front-byte 0 (omega arith), at 0 (omega arith), at 1 (omega arith), at 2 (omega arith), at 3 (omega arith), at 4 (omega arith))
+
+  pub front-fields : rowCount body ≤ maxRows → fieldsOf (body ++ rest) ≡ fieldsOf body
+  unfolding fieldsOf rowsIn
+  front-fields few =
+      let rows = map-same (rowIn (body ++ rest)) (rowIn body) (numbersFrom 0 (rowCount body)) (λ i m.
+        front-row i (omega (arith, numbers-e 0 (rowCount body) m .1))) in
+      rw (front-byte 1 (omega arith), front-byte 2 (omega arith), front-part pointsAt rowsAt (omega arith) (omega arith), rows)

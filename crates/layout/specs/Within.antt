@@ -15,9 +15,9 @@ use Rattle.layout.specs.Layout.{Patch, isVersion, maxPoints, maxRows}
 abbrev pub isByte : ℕ → Bool
 isByte x = ltb x 256
 
--- the four numbers of a row are bytes, and a block of the version has room for its region and marks
+-- the four numbers of a row and its region are bytes, and a block of the version has room for its region and marks
 abbrev pub rowFits : ℕ → Row → Bool
-rowFits version row = every isByte (numbers row) && hasRoomFor version (labels row)
+rowFits version row = every isByte (numbers row) && isByte (row .region) && hasRoomFor version (labels row)
 
 -- A patch within the limits of a version: 0 to 64 points, 0 to 60 rows, x, y, z and four point numbers each 0 to 255; in version 1 regions
 -- 0 to 255 and no marks, in version 2 regions 0 to 15.

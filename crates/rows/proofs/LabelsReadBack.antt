@@ -54,10 +54,6 @@ all-wrote : T (every wrote (numbersFrom 0 256))
 unfolding wrote every numbersFrom
 all-wrote = tt
 
-all-small : T (every (λ byte. ltb (byte % fourBits) fourBits) (numbersFrom 0 256))
-unfolding every numbersFrom
-all-small = tt
-
 -- a region and marks, written in version 2: a byte, and read back the same
 reads : Bool → Bool → Bool → Bool → ℕ → Bool
 reads a b c d region =
@@ -103,47 +99,62 @@ read-written version byte h = go (eqb version plainVersion)
     go true = refl
     go false = second
 
--- what is written is read back, and is a byte
-pub written-read : (version : ℕ) (labels : Labels) → T (hasRoomFor version labels)
-    → (labelsOf version (labelByte version labels) ≡ labels) × (labelByte version labels < 256)
+-- what is written is read back
+pub written-read : (version : ℕ) (labels : Labels) → T (hasRoomFor version labels) → labelsOf version (labelByte version labels) ≡ labels
 unfolding labelsOf labelByte hasRoomFor reads
 written-read version labels = go (eqb version plainVersion)
   where
     equal : (x y : ℕ) (k n : Marks) → x ≡ y → k ≡ n → _≡_ {A = Labels} (record { region = x; marks = k }) (record { region = y; marks = n })
     equal x y k n e f = rw (e, f)
 
-    go : (first : Bool) → T (cond first (ltb (labels .region) 256 && sameMarks (labels .marks) noMarks) (ltb (labels .region) fourBits))
-        → (_≡_ {A = Labels} (cond first (plainLabels (cond first (labels .region) (markedByte labels))) (markedLabels (cond first (labels .region) (markedByte labels)))) labels)
-        × (cond first (labels .region) (markedByte labels) < 256)
-    go true h =
-        let fits = ltb (labels .region) 256 in
-        let none = sameMarks (labels .marks) noMarks in (
-          equal (labels .region) (labels .region) noMarks (labels .marks) refl (sym (same-marks (labels .marks) noMarks (and-r fits none h))),
-          ltb→lt (labels .region) 256 (and-l fits none h),
-        )
+    go : (first : Bool) → T (cond first (sameMarks (labels .marks) noMarks) (ltb (labels .region) fourBits))
+        → _≡_ {A = Labels} (cond first (plainLabels (cond first (labels .region) (markedByte labels))) (markedLabels (cond first (labels .region) (markedByte labels)))) labels
+    go true h = equal (labels .region) (labels .region) noMarks (labels .marks) refl (sym (same-marks (labels .marks) noMarks h))
     go false h =
         let byte = markedByte labels in
         let back = markedLabels byte in
-        let r = read-each (labels .marks .qrs) (labels .marks .psr) (labels .marks .pqs) (labels .marks .prq) (labels .region) (ltb→lt _ fourBits h) in
+        let m = labels .marks in
+        let r = read-each (m .qrs) (m .psr) (m .pqs) (m .prq) (labels .region) (ltb→lt _ fourBits h) in
         let a = eqb (back .region) (labels .region) in
-        let b = sameMarks (back .marks) (labels .marks) in
-        let c = ltb byte 256 in (
-          equal (back .region) (labels .region) (back .marks) (labels .marks)
-              (eqb→eq (back .region) (labels .region) (and-l a b (and-l (a && b) c r)))
-              (same-marks (back .marks) (labels .marks) (and-r a b (and-l (a && b) c r))),
-          ltb→lt byte 256 (and-r (a && b) c r),
-        )
+        let b = sameMarks (back .marks) m in
+        let both = and-l (a && b) (ltb byte 256) r in
+        equal (back .region) (labels .region) (back .marks) m (eqb→eq (back .region) (labels .region) (and-l a b both))
+        (same-marks (back .marks) m (and-r a b both))
+
+-- and is a byte if the region is
+pub written-byte : (version : ℕ) (labels : Labels) → labels .region < 256 → T (hasRoomFor version labels) → labelByte version labels < 256
+unfolding labelByte hasRoomFor reads
+written-byte version labels small = go (eqb version plainVersion)
+  where
+    go : (first : Bool) → T (cond first (sameMarks (labels .marks) noMarks) (ltb (labels .region) fourBits))
+        → cond first (labels .region) (markedByte labels) < 256
+    go true h = small
+    go false h =
+        let byte = markedByte labels in
+        let back = markedLabels byte in
+        let m = labels .marks in
+        let r = read-each (m .qrs) (m .psr) (m .pqs) (m .prq) (labels .region) (ltb→lt _ fourBits h) in
+        ltb→lt byte 256 (and-r (eqb (back .region) (labels .region) && sameMarks (back .marks) m) (ltb byte 256) r)
 
 -- there is room for what is read
-pub read-room : (version byte : ℕ) → byte < 256 → T (hasRoomFor version (labelsOf version byte))
+pub read-room : (version byte : ℕ) → T (hasRoomFor version (labelsOf version byte))
 unfolding labelsOf hasRoomFor
-read-room version byte h = go (eqb version plainVersion)
+read-room version byte = go (eqb version plainVersion)
   where
     go : (first : Bool)
-        → T (cond first (ltb (cond first (plainLabels byte) (markedLabels byte) .region) 256 && sameMarks (cond first (plainLabels byte) (markedLabels byte) .marks) noMarks)
+        → T (cond first (sameMarks (cond first (plainLabels byte) (markedLabels byte) .marks) noMarks)
         (ltb (cond first (plainLabels byte) (markedLabels byte) .region) fourBits))
-    go true = and-i (ltb byte 256) true (lt→ltb byte 256 h) tt
-    go false = every-at (λ byte. ltb (byte % fourBits) fourBits) (numbersFrom 0 256) all-small (numbers-i 0 256 byte (omega arith) (omega arith))
+    go true = tt
+    go false = lt→ltb (byte % fourBits) fourBits (omega arith)
+
+-- and its region is a byte if it was read off one
+pub read-byte : (version byte : ℕ) → byte < 256 → labelsOf version byte .region < 256
+unfolding labelsOf
+read-byte version byte h = go (eqb version plainVersion)
+  where
+    go : (first : Bool) → cond first (plainLabels byte) (markedLabels byte) .region < 256
+    go true = h
+    go false = omega arith
 
 -- ---- which bit is whose: reading back does not tell
 

@@ -14,7 +14,7 @@ use Rattle.rows.specs.declared.Labels.{Labels}
 use Rattle.rows.specs.declared.Row.{Row}
 use Rattle.rows.specs.Labels.{labelsOf, hasRoomFor}
 use Rattle.rows.specs.Rows.{version, rowsAt, rowSize, storedRow, rowIn, rowsIn, labels}
-use Rattle.rows.proofs.LabelsReadBack.{read-room}
+use Rattle.rows.proofs.LabelsReadBack.{read-room, read-byte}
 
 pub rows-length : (table : List ℕ) (n : ℕ) → length (rowsIn table n) ≡ n
 unfolding rowsIn
@@ -76,17 +76,21 @@ row-bytes table h i =
     let at : (j : ℕ) → getD (drop rowsAt table) (rowSize * i + j) 0 < 256 = λ j. rw (row-at table i j) (h (rowsAt + rowSize * i + j)) in
     record { byte-p = at 0; byte-q = at 1; byte-r = at 2; byte-s = at 3 }
 
--- a block has room for what is read off it
-pub row-room : (table : List ℕ) → ((j : ℕ) → getD table j 0 < 256) → (i : ℕ) → T (hasRoomFor (version table) (labels (rowIn table i)))
+-- the region too
+pub row-region : (table : List ℕ) → ((j : ℕ) → getD table j 0 < 256) → (i : ℕ) → rowIn table i .region < 256
 unfolding rowIn storedRow
-row-room table h i =
-    read-room (version table) (getD (drop rowsAt table) (rowSize * i + 4) 0) (rw (row-at table i 4) (h (rowsAt + rowSize * i + 4)))
+row-region table h i =
+    read-byte (version table) (getD (drop rowsAt table) (rowSize * i + 4) 0) (rw (row-at table i 4) (h (rowsAt + rowSize * i + 4)))
+
+-- a block has room for what is read off it
+pub row-room : (table : List ℕ) (i : ℕ) → T (hasRoomFor (version table) (labels (rowIn table i)))
+unfolding rowIn storedRow
+row-room table i = read-room (version table) (getD (drop rowsAt table) (rowSize * i + 4) 0)
 
 pub rows-bytes : (table : List ℕ) → ((j : ℕ) → getD table j 0 < 256) → (n : ℕ) (row : Row) → List·Memᴰ row (rowsIn table n) → Bytes row
 rows-bytes table h n row m = let k = among-rows table n m in subst Bytes (sym (k .2)) (row-bytes table h (k .0))
 
-pub rows-room : (table : List ℕ) → ((j : ℕ) → getD table j 0 < 256) → (n : ℕ) (row : Row) → List·Memᴰ row (rowsIn table n)
-    → T (hasRoomFor (version table) (labels row))
-rows-room table h n row m =
+pub rows-room : (table : List ℕ) (n : ℕ) (row : Row) → List·Memᴰ row (rowsIn table n) → T (hasRoomFor (version table) (labels row))
+rows-room table n row m =
     let k = among-rows table n m in
-    subst (λ row. T (hasRoomFor (version table) (labels row))) (sym (k .2)) (row-room table h (k .0))
+    subst (λ row. T (hasRoomFor (version table) (labels row))) (sym (k .2)) (row-room table (k .0))

@@ -63,7 +63,6 @@ markedByte labels = labels .region % fourBits + markBits (labels .marks)
 unfoldable pub labelByte : ℕ → Labels → ℕ
 labelByte version labels = cond (eqb version plainVersion) (labels .region) (markedByte labels)
 
--- a block of this version has room for the labels: regions of a byte and no marks, or regions of four bits
+-- a block of this version has room for the labels: in version 1 there are no marks, in version 2 regions have four bits
 unfoldable pub hasRoomFor : ℕ → Labels → Bool
-hasRoomFor version labels =
-    cond (eqb version plainVersion) (ltb (labels .region) 256 && sameMarks (labels .marks) noMarks) (ltb (labels .region) fourBits)
+hasRoomFor version labels = cond (eqb version plainVersion) (sameMarks (labels .marks) noMarks) (ltb (labels .region) fourBits)
