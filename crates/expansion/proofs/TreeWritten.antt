@@ -9,7 +9,7 @@ use native.Mathlib.Omega.{arith}
 use borrow.Author.Tests.{lt-ltb, le-ltb}
 use lib.ListN.{length, getD, length-append}
 use Rattle.rows.specs.declared.Row.{Row}
-use Rattle.rows.specs.Rows.{rowSize, withRows}
+use Rattle.rows.specs.Rows.{rowsAt, rowSize, withRows}
 use Rattle.rows.proofs.PastedRows.{with-more}
 use Rattle.ring.specs.Ring.{Site}
 use Rattle.triangulation.specs.Triangulation.{Tri, side, cut, span, triangles, twoRows, newRows}
@@ -192,7 +192,7 @@ module _ {apexes : List ℕ} {i j : ℕ} where
               → one ≡ withRows table at (rowsOver (twoOver rim i k j) region)
               → (two ≡ withRows one (at + 2) (left site)) × (next ≡ at + 2 + length (left site))
               → (three ≡ withRows two next (right site)) × (last ≡ next + length (right site))
-              → rowSize * last ≤ length table
+              → rowsAt + rowSize * last ≤ length table
               → (three ≡ withRows table at (newRows site i (treeIn apexes i j)))
               × (last ≡ at + length (newRows site i (treeIn apexes i j)))
           all-written table at {one} {two} {three} {next} {last} a b c room =

@@ -27,6 +27,10 @@ edge-stays x y row = ap not (twice (holds row x) (holds row y))
 pub edge-staying : (x y : ℕ) (rows : List Row) → staying x y y rows ≡ those (λ row. not (holdsEdge x y row)) rows
 edge-staying x y rows = those-same (stays x y y) (λ row. not (holdsEdge x y row)) (edge-stays x y) rows
 
+pub edge-going : (x y : ℕ) (rows : List Row) → those (holdsFace (x ∷ y ∷ y ∷ [])) rows ≡ those (holdsEdge x y) rows
+unfolding every
+edge-going x y rows = those-same (holdsFace (x ∷ y ∷ y ∷ [])) (holdsEdge x y) (λ row. twice (holds row x) (holds row y)) rows
+
 -- a face
 pub face-stays : (x y z : ℕ) (row : Row) → stays x y z row ≡ not (holdsFace (x ∷ y ∷ z ∷ []) row)
 unfolding stays

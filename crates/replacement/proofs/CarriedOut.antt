@@ -1,28 +1,48 @@
--- The rows that stay, with the new rows of the chosen triangulation behind them, are the table afterwards.
+-- The rows that stay, with the new rows of the chosen triangulation behind them and these dressed, are the rows afterwards.
 use Prim.Native.Nat.{ℕ, zero, suc, _+_, _-_, _*_, _≤_, _<_, min, max}
-use mathlib.Core.Bool.{Bool}
-use mathlib.Core.List.{List, _++_, flatMap}
-use mathlib.Core.Path.{_≡_, sym, ap, _∙_}
+use mathlib.Core.Bool.{Bool, not}
+use mathlib.Core.List.{List, [], _∷_, _++_, map, List·Memᴰ, List·Memᴰ·not-nil}
+use mathlib.Core.Path.{_≡_, refl, sym, ap, _∙_}
 use native.Mathlib.Omega.{arith}
-use lib.ListN.{length, getD, drop, replicate, length-append, length-replicate, List·getD-append}
-use Rattle.rows.specs.Rows.{rowSize, rowsIn, rowBytes, withRows}
+use lib.Dec.{T}
+use lib.ListN.{length, getD, replicate, length-append, length-map, List·getD-append}
+use Rattle.lists.specs.Lists.{every, those, numbersFrom}
+use Rattle.lists.proofs.Lists.{those-e}
+use Rattle.lists.proofs.Places.{in-cases}
+use Rattle.lists.proofs.Images.{flatMap-e}
+use Rattle.rows.specs.declared.Row.{Row}
+use Rattle.rows.specs.Rows.{version, rowsAt, rowSize, rowIn, rowsIn, withRows, holdsEdge, holdsFace}
+use Rattle.rows.proofs.RowsOfTables.{rows-room}
+use Rattle.rows.proofs.PastedRows.{with-length, with-more}
+use Rattle.marking.specs.Marking.{dressBy, newMark, dressed}
+use Rattle.dressing.proofs.NewRowsDressed.{Plain, room-plain, dressed-in-place}
+use Rattle.layout.specs.Layout.{maxRows}
+use Rattle.layout.proofs.CellsReadBack.{roomy}
 use Rattle.ring.specs.declared.Ring.{Ring}
 use Rattle.ring.specs.Ring.{Site, siteOf, m, maxRing}
-use Rattle.triangulation.specs.Triangulation.{span, v, newRows, tableAfter}
+use Rattle.triangulation.specs.Triangulation.{Tri, span, v, triangles, twoRows, newRows, tableAfter}
 use Rattle.triangulation.specs.Best.{chosen}
 use Rattle.triangulation.specs.Steps.{siteIn}
+use Rattle.triangulation.proofs.WholeRing.{after-length}
 use Rattle.cells.specs.Steps.{cells}
 use Rattle.expansion.specs.Steps.{Between, SiteRows, treeIn}
 use Rattle.output.specs.Output.{staying}
-use Rattle.output.specs.Steps.{tableBytes, tableWith}
-use Rattle.output.proofs.RowsThatStay.{edge-staying}
-use Rattle.output.proofs.RowsThenZeros.{table-size, table-front, table-append}
+use Rattle.output.proofs.RowsThatStay.{edge-staying, edge-going, face-staying}
+use Rattle.calls.specs.Removing.{rowsMade, patchAfter}
 use Rattle.edge.specs.Steps.{Ringed}
 use Rattle.replacement.specs.Steps.{Carriable}
 
+-- new rows are written with the region of the rows that go, and without marks
+new-plain : (site : Site) (i : ℕ) (t : Tri) (row : Row) → List·Memᴰ row (newRows site i t) → Plain (site .removed) row
+unfolding newRows twoRows
+new-plain site i t row m =
+    let (triangle, k, l) = flatMap-e (twoRows site) (triangles i t) m in
+    in-cases l (λ e. rw e (record { own-region = refl; unmarked = refl })) λ l.
+    in-cases l (λ e. rw e (record { own-region = refl; unmarked = refl })) λ l. absurd (List·Memᴰ·not-nil l)
+
 module _ (coordinates : List ℕ) (count : ℕ) (table : List ℕ) (n a b : ℕ) {closed : Bool} {ring : Ring}
     (given : Ringed coordinates count table n a b closed ring) {region : ℕ} {apexes rows : List ℕ}
-    (carriable : Carriable (siteIn coordinates count table n a b) region apexes rows) where
+    (carriable : Carriable (siteIn coordinates count table n a b) region apexes table rows) where
   abbrev its : Site
   its = siteIn coordinates count table n a b
 
@@ -100,10 +120,18 @@ module _ (coordinates : List ℕ) (count : ℕ) (table : List ℕ) (n a b : ℕ)
           ∙ with-more rows 0 kept (its .kept) new (omega (arith, kept-own)) (omega (arith, carriable .place))
 
       few : end ≤ maxRows
-      few = omega (arith, own .1, kept-own, new-length its (chosen its) (carriable .stand .spans), carriable .room)
+      unfolding tableAfter
+      few =
+          let size = after-length its (chosen its) (carriable .stand .spans) in
+          omega (arith, own .1, kept-own, length-append (its .kept) new, carriable .room)
+
+      two-size : length two ≡ length rows
+      two-size =
+          ap length two-own
+          ∙ with-length rows 0 (its .kept ++ new) (omega (arith, own .1, kept-own, length-append (its .kept) new, few, carriable .place))
 
       pub dress-room : (kept ≤ end) × (rowsAt + rowSize * end ≤ length two)
-      dress-room = (omega (arith, own .1), omega (arith, few, carriable .place, ap length two-own ∙ with-length rows 0 (its .kept ++ new) (omega (arith, own .1, kept-own, length-append (its .kept) new, few, carriable .place))))
+      dress-room = (omega (arith, own .1), omega (arith, few, carriable .place, two-size))
 
       goes : those (holdsFace (a ∷ b ∷ b ∷ [])) (rowsIn table n) ≡ its .removed
       unfolding siteOf
@@ -112,14 +140,23 @@ module _ (coordinates : List ℕ) (count : ℕ) (table : List ℕ) (n a b : ℕ)
       remains : those (λ row. not (holdsFace (a ∷ b ∷ b ∷ []) row)) (rowsIn table n) ≡ its .kept
       remains = sym (face-staying a b b (rowsIn table n)) ∙ stays
 
+      site-room : T (every (roomy (version table)) (its .kept ++ new))
+      unfolding siteOf
+      site-room =
+          room-plain (version table) (its .removed) (its .kept) new
+          (λ row m. rows-room table n row (those-e (holdsEdge (min a b) (max a b)) (rowsIn table n) m .0))
+          (λ row m. rows-room table n row (those-e (λ row. not (holdsEdge (min a b) (max a b) row)) (rowsIn table n) m .0))
+          (new-plain its 1 (chosen its))
+
       -- the rows that stay and the new ones, dressed
-      pub carried-out : T (every isByte table) → (three : List ℕ)
+      pub carried-out : (three : List ℕ)
           → three ≡ withRows two kept (dressed (those (holdsFace (a ∷ b ∷ b ∷ [])) (rowsIn table n))
           (those (λ row. not (holdsFace (a ∷ b ∷ b ∷ []) row)) (rowsIn table n)) (map (rowIn two) (numbersFrom kept (end - kept))))
           → (end ≡ length (patchAfter its .rows)) × (three ≡ withRows rows 0 (patchAfter its .rows))
       unfolding patchAfter
-      carried-out are three is = (
-        own .1 ∙ rw kept-own (sym (length-append (its .kept) (rowsMade its) ∙ ap (λ k. length (its .kept) + k) (length-map new (dressBy (newMark (its .removed) (its .kept)))))),
-        dressed-in-place rows (its .kept) new kept end kept-own (own .1) (omega (arith, few, carriable .place)) (rw (carriable .same-version) (site-room are)) two two-own
-            (its .removed) (its .kept) three (rw (goes, remains) at is),
-      )
+      carried-out three is =
+          let made = length-map new (dressBy (newMark (its .removed) (its .kept))) in (
+            own .1 ∙ rw kept-own (sym (length-append (its .kept) (rowsMade its) ∙ ap (λ k. length (its .kept) + k) made)),
+            dressed-in-place rows (its .kept) new kept end kept-own (own .1) (omega (arith, few, carriable .place))
+                (rw (carriable .same-version) site-room) two two-own (its .removed) (its .kept) three (rw (goes, remains) at is),
+          )

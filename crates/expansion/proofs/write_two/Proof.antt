@@ -34,12 +34,15 @@ returns : tie.Need-returns
 returns c =
     let two = c .before .before in
     let one = two .before .before .before .before in
-    let s = one .before .before .before in
+    let b-made = one .before .before in
+    let a-made = b-made .before in
+    let s = a-made .before .before in
     let a = s .args in
     let a-row : Row = record { p = a .rows .a; q = a .rows .x; r = a .rows .y; s = a .rows .z; region = a .region; marks = noMarks } in
     let b-row : Row = record { p = a .rows .x; q = a .rows .y; r = a .rows .z; s = a .rows .b; region = a .region; marks = noMarks } in
     two .put-row2 .ensures
-    ∙ ap (λ t. withRows t (a .at + 1) (b-row ∷ [])) (one .put-row .ensures)
+    ∙ rw (b-made .plain2 .ensures)
+    (ap (λ t. withRows t (a .at + 1) (b-row ∷ [])) (one .put-row .ensures ∙ ap (λ row. withRows (now (a .table)) (a .at) (row ∷ [])) (a-made .plain .ensures)))
     ∙ with-more (now (a .table)) (a .at) (a .at + 1) (a-row ∷ []) (b-row ∷ []) refl (omega (arith, s .pre))
 
 pub write-two-spec : {M : Type 1} → statement M
