@@ -1,3 +1,4 @@
 pub mod NewMarks
 pub mod RowsDressed
 pub mod NewRowsDressed
+pub mod MarksThatGo

@@ -1,7 +1,7 @@
 -- Answers 19, 20 and 14 to 16 of a removal, one by one: what decides each, given what the tests above it found.
 use Prim.Native.Nat.{ℕ, suc, _+_, _-_, _*_, _≤_, _<_, min, max}
 use mathlib.Core.Bool.{Bool, true, false, cond, not, _||_}
-use mathlib.Core.List.{List, map}
+use mathlib.Core.List.{List, [], _∷_, map}
 use mathlib.Core.Option.{Option·getD}
 use mathlib.Core.Path.{_≡_, refl, sym, ap, _∙_}
 use native.Mathlib.Omega.{arith}
@@ -9,7 +9,7 @@ use borrow.Author.Tests.{lt-ltb, le-ltb, ltb-false}
 use lib.Dec.{T}
 use lib.IntN.{pos}
 use lib.ListN.{length, getD, replicate, List·getD-append}
-use Rattle.lists.specs.Lists.{every, those}
+use Rattle.lists.specs.Lists.{every, any, those}
 use Rattle.lists.proofs.Lists.{those-split}
 use Rattle.quality.specs.declared.Quality.{Quality}
 use Rattle.volume.specs.Volume.{pointsIn, sameZ}
@@ -23,6 +23,8 @@ use Rattle.rows.specs.declared.Regions.{Regions}
 use Rattle.rows.specs.declared.Regions.the-variants.{One, Several}
 use Rattle.rows.specs.Steps.{regionsOf}
 use Rattle.rows.proofs.RegionsRowByRow.{told-several, told-one}
+use Rattle.marking.specs.Marking.{marksOver}
+use Rattle.dressing.proofs.MarksThatGo.{edge-goes-among}
 use Rattle.answers.specs.declared.Answer.the-variants.{Done, Refused}
 use Rattle.layout.specs.Layout.{maxRows}
 use Rattle.answers.specs.Answers.{Tests, firstRefusal, answerOf}
@@ -34,7 +36,7 @@ use Rattle.triangulation.specs.Triangulation.{rowsAfter}
 use Rattle.triangulation.specs.Steps.{siteIn}
 use Rattle.cells.specs.Steps.{bestOf}
 use Rattle.replacement.specs.declared.Way.{Way}
-use Rattle.calls.specs.Removing.{worstNow, noRoom, noWay, noneBetter, replacementTests}
+use Rattle.calls.specs.Removing.{worstNow, markLost, noRoom, noWay, noneBetter, replacementTests}
 use Rattle.edge.specs.Steps.{Ringed}
 use Rattle.flatness.specs.Steps.{Crossed, across}
 use Rattle.verdict.specs.declared.Plan.{Plan}
@@ -154,22 +156,32 @@ module _ (coordinates : List ℕ) (count : ℕ) (table : List ℕ) (n a b : ℕ)
     pub one-told : (g : ℕ) → regions ≡ One g → (mixed (its .removed) ≡ false) × (g ≡ regionOf (its .removed))
     one-told g e = told-one (its .removed) (sym regions-are ∙ e)
 
-  pub gives-14 : notFlat its ≡ false → mixed (its .removed) ≡ false → (after : ℕ) → after + ring .m ≡ n + cond closed 0 1 + 2 * (ring .m - 2) → maxRows < after
+  -- ---- a marked face
+
+  pub lost-is : (told : Bool) → told ≡ any (marksOver (a ∷ b ∷ b ∷ [])) (rowsIn table n) → markLost its ≡ told
+  unfolding siteOf
+  lost-is told is = sym (is ∙ edge-goes-among a b (rowsIn table n) ∙ rw (least, most))
+
+  pub gives-23 : notFlat its ≡ false → mixed (its .removed) ≡ false → markLost its ≡ true → (plan : Plan) → plan ≡ noPlan (Refused 23) → Plans its plan
+  unfolding firstRefusal before testOf
+  gives-23 level one lost = refusal 22 (rw (level, one)) lost
+
+  pub gives-14 : notFlat its ≡ false → mixed (its .removed) ≡ false → markLost its ≡ false → (after : ℕ) → after + ring .m ≡ n + cond closed 0 1 + 2 * (ring .m - 2) → maxRows < after
       → (plan : Plan) → plan ≡ noPlan (Refused 14) → Plans its plan
   unfolding firstRefusal before testOf
-  gives-14 level one after after-is h =
-      refusal 13 (rw (level, one)) (lt-ltb maxRows (rowsAfter its) (omega (arith, room-is after after-is)))
+  gives-14 level one stay after after-is h =
+      refusal 13 (rw (level, one, stay)) (lt-ltb maxRows (rowsAfter its) (omega (arith, room-is after after-is)))
 
   pub has-room : (after : ℕ) → after + ring .m ≡ n + cond closed 0 1 + 2 * (ring .m - 2) → after ≤ maxRows → rowsAfter its ≤ maxRows
   has-room after after-is h = omega (arith, room-is after after-is)
 
-  module _ (level : notFlat its ≡ false) (one : mixed (its .removed) ≡ false) (room : rowsAfter its ≤ maxRows) (way : Way) (is-best : BestWay its way) where
+  module _ (level : notFlat its ≡ false) (one : mixed (its .removed) ≡ false) (stay : markLost its ≡ false) (room : rowsAfter its ≤ maxRows) (way : Way) (is-best : BestWay its way) where
     roomy : noRoom its ≡ false
     roomy = le-ltb maxRows (rowsAfter its) room
 
     pub gives-15 : way .best ≡ Mark → (plan : Plan) → plan ≡ noPlan (Refused 15) → Plans its plan
     unfolding firstRefusal before testOf
-    gives-15 e = refusal 14 (rw (level, one, roomy)) (marked its (given .sound) three way is-best e)
+    gives-15 e = refusal 14 (rw (level, one, stay, roomy)) (marked its (given .sound) three way is-best e)
 
     module _ (q : Quality) (is : way .best ≡ Worst q) where
       some-way : noWay its ≡ false
@@ -192,13 +204,13 @@ module _ (coordinates : List ℕ) (count : ℕ) (table : List ℕ) (n a b : ℕ)
 
         pub gives-16 : worse now q ≡ false → (plan : Plan) → plan ≡ noPlan (Refused 16) → Plans its plan
         unfolding firstRefusal before testOf
-        gives-16 e = refusal 15 (rw (level, one, roomy, some-way)) (decides ∙ ap not e)
+        gives-16 e = refusal 15 (rw (level, one, stay, roomy, some-way)) (decides ∙ ap not e)
 
         pub gives-0 : worse now q ≡ true → (g : ℕ) → g ≡ regionOf (its .removed)
             → Plans its (record { answer = Done; region = g; apexes = way .apexes })
         unfolding planAnswer firstRefusal
         gives-0 e g region =
-            let z : planAnswer its ≡ 0 = rw (level, one, roomy, some-way, decides ∙ ap not e) in
+            let z : planAnswer its ≡ 0 = rw (level, one, stay, roomy, some-way, decides ∙ ap not e) in
             record { answer = sym (ap answerOf z); region = λ _. region; apexes = λ _. is-best .apexes q (ap bestOf is) }
 
   -- ---- behind answer 0

@@ -1,4 +1,4 @@
-// Whether a ring or chain is replaced: answers 19, 20 and 14 to 16.
+// Whether a ring or chain is replaced: answers 19, 20, 23 and 14 to 16.
 ghost use mathlib.Core.Path.{_≡_};
 ghost use Rattle.rows.specs.Steps.{regionsOf};
 ghost use Rattle.triangulation.specs.Steps.{siteIn};
@@ -14,7 +14,7 @@ use replacement::best_way;
 use ring::Ring;
 use rows::Regions;
 
-// Answers 19, 20 and 14 to 16 of a removal and, with answer 0, the region of the rows that go and the apexes of the chosen triangulation.
+// Answers 19, 20, 23 and 14 to 16 of a removal and, with answer 0, the region of the rows that go and the apexes of the chosen triangulation.
 pub struct Plan {
     pub answer: Answer,
     pub region: u8,
@@ -54,6 +54,9 @@ pub fn decide(
     let Regions::One(region) = regions else {
         return no_plan(Answer::Refused(answers::TWO_REGIONS));
     };
+    if dressing::mark_goes(table, n, a, b, b) {
+        return no_plan(Answer::Refused(answers::MARK_GOES));
+    }
     let m = ring.m as usize;
     if MAX_ROWS < rows_after(closed, n, m) {
         return no_plan(Answer::Refused(answers::NO_ROOM));

@@ -33,25 +33,28 @@ cast-last c = search needs
 sub-last : tie.Need-sub-last
 sub-last c = omega (arith, c .before .before .pre .some-point)
 
-element-copy-out-t12 : tie.Need-element-copy-out-t12
-element-copy-out-t12 c = search needs
+element-copy-out-plain : tie.Need-element-copy-out-plain
+element-copy-out-plain c = search needs
 
-element-copy-out-t18 : tie.Need-element-copy-out-t18
-element-copy-out-t18 c = let pre = c .before .before .before .pre in omega (arith, pre .some-point, pre .short)
+element-copy-out-plain-2 : tie.Need-element-copy-out-plain-2
+element-copy-out-plain-2 c = let pre = c .before .before .before .pre in omega (arith, pre .some-point, pre .short)
+
+plain-requires : tie.Need-plain-requires
+plain-requires c κs = search needs
 
 row-volume-requires : tie.Need-row-volume-requires
-row-volume-requires c κs = c .before .before .before .before .pre .placed
+row-volume-requires c κs = rw (c .plain .ensures) (c .before .before .before .before .before .pre .placed)
 
 returns-2 : tie.Need-returns-2
 returns-2 c =
     let measured = c .before in
-    rw (measured .before .before .before .if1 .left)
+    rw (measured .before .before .before .before .if1 .left, ← (measured .before .plain .ensures))
     (below (read (measured .row-volume .ok) (measured .row-volume .ensures)) (c .if2 .taken))
 
 returns-3 : tie.Need-returns-3
 returns-3 c =
     let measured = c .before in
-    rw (measured .before .before .before .if1 .left)
+    rw (measured .before .before .before .before .if1 .left, ← (measured .before .plain .ensures))
     (not-below (read (measured .row-volume .ok) (measured .row-volume .ensures)) (c .if2 .left))
 
 pub not-flat-spec : {M : Type 1} → statement M
@@ -61,8 +64,9 @@ not-flat-spec =
     returns
     cast-last
     sub-last
-    element-copy-out-t12
-    element-copy-out-t18
+    element-copy-out-plain
+    element-copy-out-plain-2
+    plain-requires
     row-volume-requires
     returns-2
     returns-3)
