@@ -6,26 +6,24 @@ use lib.ListN.{length}
 use Rattle.page.specs.declared.PageRow.{PageRow}
 use Rattle.page.specs.Page.{shown, pageRow}
 use Rattle.rows.specs.declared.Row.{Row}
+use Rattle.rows.specs.Rows.{withRows}
 use Rattle.layout.specs.Layout.{fieldsOf}
 use Rattle.tally.specs.Tally.{worstOfPatch}
 use Rattle.ring.specs.Ring.{siteOf}
-use Rattle.triangulation.specs.Triangulation.{tableAfter}
-use Rattle.triangulation.specs.Best.{chosen}
-use Rattle.output.specs.Steps.{tableWith}
 use Rattle.calls.specs.Removing.{patchAfter}
 use Rattle.outcome.specs.declared.After.{After}
 
 -- the rows afterwards
 abbrev pub rowsAfterwards : List ℕ → ℕ → ℕ → List Row
-rowsAfterwards block e f = let site = siteOf (fieldsOf block) e f in tableAfter site (chosen site)
+rowsAfterwards block e f = patchAfter (siteOf (fieldsOf block) e f) .rows
 
 -- the page row
 abbrev pub pageAfterwards : List ℕ → ℕ → ℕ → PageRow
 pageAfterwards block e f =
     pageRow (shown (worstOfPatch (fieldsOf block))) (shown (worstOfPatch (patchAfter (siteOf (fieldsOf block) e f))))
 
--- The rows afterwards stand in the table, and their number and the page row are told.
-pub record Replaces (block : List ℕ) (e f : ℕ) (rows : List ℕ) (after : After) : Type 0 where
+-- The rows afterwards are written where they belong, and their number and the page row are told.
+pub record Replaces (block : List ℕ) (e f : ℕ) (before rows : List ℕ) (after : After) : Type 0 where
   pub number : after .n ≡ length (rowsAfterwards block e f)
-  pub table : rows ≡ tableWith (rowsAfterwards block e f)
+  pub table : rows ≡ withRows before 0 (rowsAfterwards block e f)
   pub page : after .page ≡ pageAfterwards block e f

@@ -1,9 +1,11 @@
 // The removal of an edge that is decided, carried out: the rows afterwards, written where they belong, and the page row.
 ghost use mathlib.Core.Path.{_≡_};
-ghost use lib.ListN.{length, replicate};
+ghost use Prim.Native.Nat.{_≤_};
+ghost use lib.ListN.{length};
+ghost use Rattle.rows.specs.Rows.{version};
+ghost use Rattle.layout.specs.Layout.{bodyBytes};
 ghost use Rattle.block.specs.Opening.{openAnswer};
 ghost use Rattle.cells.specs.Steps.{cells};
-ghost use Rattle.output.specs.Steps.{tableBytes};
 ghost use Rattle.replacement.specs.Steps.{Replaceable};
 ghost use Rattle.outcome.specs.Steps.{Replaces};
 use cells::CELLS;
@@ -22,7 +24,7 @@ pub struct After {
     pub page: PageRow,
 }
 
-// The rows afterwards, written into an empty table.
+// The rows afterwards, written into a block that is begun.
 pub fn replace(
     block: &[u8],
     e: usize,
@@ -34,19 +36,18 @@ pub fn replace(
     rows: &mut [u8],
 ) -> After
     requires { ⌜ (openAnswer (now block) ≡ 0) × Replaceable (now block) e f closed ring region (now apexes) ⌝ }
-    requires { ⌜ (length (now apexes) ≡ cells) × (now rows ≡ replicate tableBytes 0) ⌝ }
-    ensures { λ r. ⌜ Replaces (now (block .entry)) e f (now (rows .exit)) r ⌝ }
+    requires { ⌜ (length (now apexes) ≡ cells) × (bodyBytes ≤ length (now rows)) × (version (now rows) ≡ version (now block)) ⌝ }
+    ensures { λ r. ⌜ Replaces (now (block .entry)) e f (now (rows .entry)) (now (rows .exit)) r ⌝ }
 {
     let count = block[1] as usize;
     let n = block[2] as usize;
     let coordinates = &block[POINTS_AT..ROWS_AT];
-    let table = block;
     let a = smaller(e, f);
     let b = larger(e, f);
     let end = carry_out(
         coordinates,
         count,
-        table,
+        block,
         n,
         a,
         b,
@@ -58,6 +59,6 @@ pub fn replace(
     );
     After {
         n: end,
-        page: page_row(coordinates, count, table, n, rows, end),
+        page: page_row(coordinates, count, block, n, rows, end),
     }
 }

@@ -9,11 +9,9 @@ use attempt::attempt;
 use calls::Removal;
 use calls::Removed;
 use edge::blocks_answer;
-use layout::BODY_BYTES;
-use layout::TABLE_BYTES;
+use layout::BLOCK_BYTES;
 use outcome::replace;
 use ring::Ring;
-use rows::ROWS_AT;
 
 // A refusal, with its number and nothing else.
 fn refused(number: u8) -> Removed
@@ -50,7 +48,7 @@ pub fn remove(block: &[u8], e: usize, f: usize, out: &mut [u8]) -> Removed
         ring,
         tried.region,
         &apexes,
-        &mut out[ROWS_AT..BODY_BYTES],
+        out,
     );
     output::finish(out, after.n);
     let page = after.page;
@@ -75,7 +73,8 @@ pub fn page(block: &[u8], e: usize, f: usize) -> Removal
     if let Answer::Refused(number) = told {
         return Removal::Refused(number);
     }
-    let mut rows = [0u8; TABLE_BYTES];
+    let mut rows = [0u8; BLOCK_BYTES];
+    output::begin(block, &mut rows);
     let after = replace(
         block,
         e,

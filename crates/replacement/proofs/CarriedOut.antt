@@ -33,7 +33,7 @@ use Rattle.edge.specs.Steps.{Ringed}
 use Rattle.replacement.specs.Steps.{Carriable}
 
 -- new rows are written with the region of the rows that go, and without marks
-new-plain : (site : Site) (i : ℕ) (t : Tri) (row : Row) → List·Memᴰ row (newRows site i t) → Plain (site .removed) row
+pub new-plain : (site : Site) (i : ℕ) (t : Tri) (row : Row) → List·Memᴰ row (newRows site i t) → Plain (site .removed) row
 unfolding newRows twoRows
 new-plain site i t row m =
     let (triangle, k, l) = flatMap-e (twoRows site) (triangles i t) m in

@@ -82,30 +82,21 @@ shared-slice-read-decide c = omega (arith, size (c .before .before))
 cast-decide : tie.Need-cast-decide
 cast-decide c = omega (arith, c .shared-slice-known2 .given 1)
 
-sub-decide-2 : tie.Need-sub-decide-2
-sub-decide-2 c = search needs
-
-part-decide-start-2 : tie.Need-part-decide-start-2
-part-decide-start-2 c = search needs
-
-part-decide-end-2 : tie.Need-part-decide-end-2
-part-decide-end-2 c = omega (arith, size (c .before .before))
-
 shared-slice-read-decide-2 : tie.Need-shared-slice-read-decide-2
-shared-slice-read-decide-2 c = omega (arith, size (c .before .before .before .before))
+shared-slice-read-decide-2 c = omega (arith, size (c .before .before .before))
 
 cast-decide-2 : tie.Need-cast-decide-2
 cast-decide-2 c = omega (arith, c .shared-slice-known3 .given 2)
 
 smaller-requires : tie.Need-smaller-requires
-smaller-requires c κs = ends (c .before .before .before .before)
+smaller-requires c κs = ends (c .before .before .before)
 
 larger-requires : tie.Need-larger-requires
-larger-requires c κs = ends (c .before .before .before .before .before)
+larger-requires c κs = ends (c .before .before .before .before)
 
 decide-requires : tie.Need-decide-requires
 decide-requires c κs =
-    let k = c .before .before .before .before .before .before in
+    let k = c .before .before .before .before .before in
     let p = c .before .smaller .ensures in
     let q = c .larger .ensures in
     let site = own-site orChains (blockOf k) (eOf k) (fOf k) (opens k) (foundAt k) (is-found k) (is-done k) _ _ p q in (
@@ -117,7 +108,7 @@ decide-requires c κs =
 returns-2 : tie.Need-returns-2
 returns-2 c =
     let decided = c .before in
-    let k = decided .before .before .before .before .before .before .before in
+    let k = decided .before .before .before .before .before .before in
     let block = blockOf k in
     let at : ℕ → ℕ → Site = λ a b. siteIn (coordinatesOf block) (pointCount block) block (rowCount block) a b in
     tried-is block (eOf k) (fOf k) (opens k) (foundAt k) (is-found k) (is-done k) _
@@ -137,9 +128,6 @@ attempt-spec =
     part-decide-end
     shared-slice-read-decide
     cast-decide
-    sub-decide-2
-    part-decide-start-2
-    part-decide-end-2
     shared-slice-read-decide-2
     cast-decide-2
     smaller-requires

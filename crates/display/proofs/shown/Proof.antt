@@ -57,24 +57,15 @@ shared-slice-read-put-elements c = omega (arith, whole (c .before .before))
 cast-put-elements : tie.Need-cast-put-elements
 cast-put-elements c = omega (arith, c .shared-slice-known2 .given 1)
 
-sub-put-elements-2 : tie.Need-sub-put-elements-2
-sub-put-elements-2 c = search needs
-
-part-put-elements-start-2 : tie.Need-part-put-elements-start-2
-part-put-elements-start-2 c = search needs
-
-part-put-elements-end-2 : tie.Need-part-put-elements-end-2
-part-put-elements-end-2 c = omega (arith, whole (c .before .before))
-
 shared-slice-read-put-elements-2 : tie.Need-shared-slice-read-put-elements-2
-shared-slice-read-put-elements-2 c = omega (arith, whole (c .before .before .before .before))
+shared-slice-read-put-elements-2 c = omega (arith, whole (c .before .before .before))
 
 cast-put-elements-2 : tie.Need-cast-put-elements-2
 cast-put-elements-2 c = omega (arith, c .shared-slice-known3 .given 2)
 
 put-elements-requires : tie.Need-put-elements-requires
 put-elements-requires c κs =
-    let k = c .before .before .before .before .before in
+    let k = c .before .before .before .before in
     let left = k .before .before .before in
     (opens-measured _ (told k), few-rows _ (told k), left .if1 .left)
 
@@ -84,7 +75,7 @@ same-length c = search needs
 returns-3 : tie.Need-returns-3
 returns-3 c =
     let put = c .before .before in
-    let k = put .before .before .before .before .before .before in
+    let k = put .before .before .before .before .before in
     let opened = k .before .before in
     let left = opened .before in
     let a = left .before .before .before .args in
@@ -105,9 +96,6 @@ shown-spec =
     part-put-elements-end
     shared-slice-read-put-elements
     cast-put-elements
-    sub-put-elements-2
-    part-put-elements-start-2
-    part-put-elements-end-2
     shared-slice-read-put-elements-2
     cast-put-elements-2
     put-elements-requires

@@ -33,15 +33,6 @@ part-coordinates-start c = search needs
 part-coordinates-end : tie.Need-part-coordinates-end
 part-coordinates-end c = omega (arith, size (c .before .before))
 
-sub-table : tie.Need-sub-table
-sub-table c = search needs
-
-part-table-start : tie.Need-part-table-start
-part-table-start c = search needs
-
-part-table-end : tie.Need-part-table-end
-part-table-end c = omega (arith, size (c .before .before .before))
-
 smaller-requires : tie.Need-smaller-requires
 smaller-requires c κs = search needs
 
@@ -52,32 +43,32 @@ carry-out-requires : tie.Need-carry-out-requires
 carry-out-requires c κs =
     let larger = c .before in
     let smaller = larger .before in
-    let start = smaller .before .before .before .before .before .before .before in
+    let start = smaller .before .before .before .before .before .before in
     let args = start .args in
     let given = start .pre .0 .1 in
     rw (smaller .smaller .ensures, larger .larger .ensures)
-    (given .ringed, carriable (args .block .now) (args .e) (args .f) given (start .pre .1 .0) (start .pre .1 .1))
+    (given .ringed, carriable (args .block .now) (args .e) (args .f) given (start .pre .1 .0) (start .pre .1 .1) (start .pre .1 .2))
 
 page-row-requires : tie.Need-page-row-requires
 page-row-requires c κs =
     let carried = c .before .before .before in
     let larger = carried .before .before in
     let smaller = larger .before in
-    let start = smaller .before .before .before .before .before .before .before in
+    let start = smaller .before .before .before .before .before .before in
     let args = start .args in
     let given = start .pre .0 .1 in
     let (number, table) = rw (smaller .smaller .ensures, larger .larger .ensures) at (carried .carry-out .ensures) in
-    (given .ringed .measured, measured (args .block .now) (args .e) (args .f) given _ number _ table)
+    (given .ringed .measured, measured (args .block .now) (args .e) (args .f) given (args .rows .now) (start .pre .1 .1) (start .pre .1 .2) _ number _ table)
 
 returns : tie.Need-returns
 returns c =
     let carried = c .before .before .before .before in
     let larger = carried .before .before in
     let smaller = larger .before in
-    let start = smaller .before .before .before .before .before .before .before in
+    let start = smaller .before .before .before .before .before .before in
     let args = start .args in
     let (number, table) = rw (smaller .smaller .ensures, larger .larger .ensures) at (carried .carry-out .ensures) in
-    replaced (args .block .now) (args .e) (args .f) (start .pre .0 .1) _ number _ table _ (c .page-row .ensures)
+    replaced (args .block .now) (args .e) (args .f) (start .pre .0 .1) (args .rows .now) (start .pre .1 .1) (start .pre .1 .2) _ number _ table _ (c .page-row .ensures)
 
 same-length : tie.Need-same-length
 same-length c = search needs
@@ -93,9 +84,6 @@ replace-spec =
     sub-coordinates
     part-coordinates-start
     part-coordinates-end
-    sub-table
-    part-table-start
-    part-table-end
     smaller-requires
     larger-requires
     carry-out-requires

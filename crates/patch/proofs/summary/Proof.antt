@@ -52,34 +52,18 @@ part-summary-of-end c =
     let block = k .before .before .args .block .now in
     omega (arith, block-size block (handed-done (openAnswer block) _ (k .opening .ensures) (c .before .before .enum-told .given .1)))
 
-sub-summary-of-2 : tie.Need-sub-summary-of-2
-sub-summary-of-2 c = search needs
-
-part-summary-of-start-2 : tie.Need-part-summary-of-start-2
-part-summary-of-start-2 c = search needs
-
-part-summary-of-end-2 : tie.Need-part-summary-of-end-2
-part-summary-of-end-2 c =
-    let k = c .before .before .before .before .before in
-    let block = k .before .before .args .block .now in
-    omega (
-      arith,
-      block-size block
-          (handed-done (openAnswer block) _ (k .opening .ensures) (c .before .before .before .enum-told .given .1)),
-    )
-
 summary-of-requires : tie.Need-summary-of-requires
 summary-of-requires c κs =
-    let k = c .before .before .before .before .before .before in
+    let k = c .before .before .before .before .before in
     let block = k .before .before .args .block .now in
-    opens-measured block (handed-done (openAnswer block) _ (k .opening .ensures) (c .before .before .before .before .enum-told .given .1))
+    opens-measured block (handed-done (openAnswer block) _ (k .opening .ensures) (c .before .before .before .enum-told .given .1))
 
 returns-2 : tie.Need-returns-2
 returns-2 c =
-    let k = c .before .before .before .before .before .before .before in
+    let k = c .before .before .before .before .before .before in
     let block = k .before .before .args .block .now in
     summed-done block _ (handed-done (openAnswer block) _ (k .opening .ensures)
-    (c .before .before .before .before .before .enum-told .given .1)) (c .summary-of .ensures)
+    (c .before .before .before .before .enum-told .given .1)) (c .summary-of .ensures)
 
 pub summary-spec : {M : Type 1} → statement M
 summary-spec =
@@ -96,8 +80,5 @@ summary-spec =
     sub-summary-of
     part-summary-of-start
     part-summary-of-end
-    sub-summary-of-2
-    part-summary-of-start-2
-    part-summary-of-end-2
     summary-of-requires
     returns-2)
