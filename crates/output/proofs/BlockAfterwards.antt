@@ -29,6 +29,22 @@ use Rattle.output.specs.Output.{patchWith}
 abbrev head : ℕ → ℕ → ℕ → List ℕ
 head v points rows = filled pointsAt (v ∷ points ∷ rows ∷ [])
 
+-- a block that is begun has the version of the other, and the length of a block
+module _ (block : List ℕ) (opens : openAnswer block ≡ 0) where
+  block-front : length (take rowsAt block) ≡ rowsAt
+  block-front = length-take-le rowsAt block (omega (arith, right-block block opens .size))
+
+  module _ (out one : List ℕ) (size : length out ≡ blockBytes) (is-begun : one ≡ begun block out) where
+    pub begun-version : version one ≡ version block
+    begun-version =
+        ap version is-begun
+        ∙ (List·getD-append (take rowsAt block) (replicate tableBytes 0 ++ drop bodyBytes out) 0 0 (omega (arith, block-front))
+        ∙ getD-take rowsAt block 0 0 (omega arith))
+
+    pub begun-length : length one ≡ blockBytes
+    begun-length =
+        ap length is-begun ∙ simp (length-append, length-replicate, length-drop) (omega (arith, block-front, size))
+
 -- bytes 0 to 207 of a block of bytes that opens: the head, then the points
 module _ (block : List ℕ) (are : T (every isByte block)) (opens : openAnswer block ≡ 0) where
   abbrev points : List ℕ
@@ -55,20 +71,7 @@ module _ (block : List ℕ) (are : T (every isByte block)) (opens : openAnswer b
       ∙ take-at (head (version block) count (length rows) ++ points) (filled 300 (flatMap (rowBytes (version block)) rows)) 208
       (front-size (length rows)))
 
-  block-front : length (take rowsAt block) ≡ rowsAt
-  block-front = length-take-le rowsAt block (omega (arith, right-block block opens .size))
-
   module _ (out one : List ℕ) (size : length out ≡ blockBytes) (is-begun : one ≡ begun block out) where
-    pub begun-version : version one ≡ version block
-    begun-version =
-        ap version is-begun
-        ∙ (List·getD-append (take rowsAt block) (replicate tableBytes 0 ++ drop bodyBytes out) 0 0 (omega (arith, block-front))
-        ∙ getD-take rowsAt block 0 0 (omega arith))
-
-    pub begun-length : length one ≡ blockBytes
-    begun-length =
-        ap length is-begun ∙ simp (length-append, length-replicate, length-drop) (omega (arith, block-front, size))
-
     -- rows written into it
     rows-in-place : (rows : List Row) → length rows ≤ maxRows
         → withRows one 0 rows ≡ take rowsAt block ++ (filled tableBytes (flatMap (rowBytes (version block)) rows) ++ drop bodyBytes out)
@@ -79,10 +82,10 @@ module _ (block : List ℕ) (are : T (every isByte block)) (opens : openAnswer b
         let room : length bytes ≤ length zeros = simp length-replicate (omega arith) in
         let rest = drop bodyBytes out in
         let here : rowsAt + rowSize * 0 ≡ rowsAt = omega arith in
-        ap (λ v. pasted one (rowsAt + rowSize * 0) (flatMap (rowBytes v) rows)) begun-version
+        ap (λ v. pasted one (rowsAt + rowSize * 0) (flatMap (rowBytes v) rows)) (begun-version block opens out one size is-begun)
         ∙ ap (λ k. pasted one k bytes) here
         ∙ ap (λ t. pasted t rowsAt bytes) is-begun
-        ∙ pasted-behind (take rowsAt block) (zeros ++ rest) bytes rowsAt block-front
+        ∙ pasted-behind (take rowsAt block) (zeros ++ rest) bytes rowsAt (block-front block opens)
         ∙ ap (λ l. take rowsAt block ++ bytes ++ l)
         (drop-append-le (length bytes) zeros rest room ∙ ap (λ l. l ++ rest) (drop-zeros (length bytes) tableBytes))
         ∙ rw (append-assoc (take rowsAt block) bytes (replicate (tableBytes - length bytes) 0 ++ rest),
@@ -102,7 +105,7 @@ module _ (block : List ℕ) (are : T (every isByte block)) (opens : openAnswer b
         let top-is : set (take rowsAt block) 2 n ≡ top = ap (λ front. set front 2 n) front-read ∙ ap (λ m. head v count m ++ points) k in
         let all : set two 2 n ≡ top ++ table ++ rest =
         ap (λ l. set l 2 n) (t ∙ rows-in-place rows few)
-        ∙ set-append-left (take rowsAt block) (table ++ rest) 2 n (omega (arith, block-front))
+        ∙ set-append-left (take rowsAt block) (table ++ rest) 2 n (omega (arith, (block-front block opens)))
         ∙ ap (λ front. front ++ (table ++ rest)) top-is
         ∙ sym (append-assoc top table rest) in
         d

@@ -96,7 +96,7 @@ module _ (block out : List ℕ) (e f : ℕ) where
       unfolding fieldsOf
       own-ring = replaceable .ringed .ready .found ∙ ap (λ (s : Site). ringWith (s .ring)) (site-ordered (fieldsOf block) e f)
 
-      module _ (rows : List ℕ) (after : After) (replaces : Replaces block e f rows after) where
+      module _ (before rows : List ℕ) (after : After) (replaces : Replaces block e f before rows after) where
         pub done-gives : _≡_ {A = Removed} (record { removal = Done (after .page); ring = tried .ring }) (removeGives block out e f)
         unfolding gives
         done-gives =

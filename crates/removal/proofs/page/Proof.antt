@@ -1,5 +1,6 @@
 -- A refusal is the removal's; with answer 0 the page row is.
-use mathlib.Core.Path.{_≡_, sym, ap, _∙_}
+use mathlib.Core.Path.{_≡_, refl, sym, ap, _∙_}
+use native.Mathlib.Omega.{arith}
 use borrow.Author.Needs.{needs}
 use lib.ListN.{length}
 use Rattle.answers.specs.Answers.{answerOf}
@@ -7,6 +8,7 @@ use Rattle.block.specs.Opening.{openAnswer}
 use Rattle.calls.specs.declared.Removed.{Removed}
 use Rattle.calls.proofs.HandedOn.{handed-done}
 use Rattle.cells.specs.Steps.{cells}
+use Rattle.output.proofs.BlockAfterwards.{begun-version, begun-length}
 use Rattle.removal.proofs.RemovalAnswers.{refusal-gives, front-number, tried-number, replaceable, done-gives, blank, blank-size, blank-opened}
 use Rattle.removal.proofs.page.Statement.{statement}
 use Rattle.removal.proofs.page.Tie as tie
@@ -56,12 +58,20 @@ returns-2 c =
 enum-told-2 : tie.Need-enum-told-2
 enum-told-2 c = search needs
 
+slice-aggregate-begin : tie.Need-slice-aggregate-begin
+slice-aggregate-begin c = search needs
+
+begin-requires : tie.Need-begin-requires
+begin-requires c κs =
+    (opens (c .before .before .before .before .before .before), refl)
+
 slice-aggregate-replace : tie.Need-slice-aggregate-replace
 slice-aggregate-replace c = search needs
 
 replace-requires : tie.Need-replace-requires
 replace-requires c κs =
-    let done = c .before .before in
+    let begun = c .before .before .before in
+    let done = begun .before .before in
     let tried = done .before .before .before .before in
     let k = tried .before in
     let args = k .before .before .before .before .args in (
@@ -69,18 +79,19 @@ replace-requires c κs =
         opens k,
         replaceable (args .block .now) blank (args .e) (args .f) (opens k) blank-size _ (tried .attempt .ensures) (done .enum-told2 .given .1),
       ),
-      (whole tried, search needs),
+      (whole tried, omega (arith, begun-length (args .block .now) (opens k) blank _ blank-size (begun .begin .ensures)), begun-version (args .block .now) (opens k) blank _ blank-size (begun .begin .ensures)),
     )
 
 returns-3 : tie.Need-returns-3
 returns-3 c =
     let replaced = c .before .before in
-    let done = replaced .before .before .before in
+    let begun = replaced .before .before .before .before in
+    let done = begun .before .before in
     let tried = done .before .before .before .before in
     let k = tried .before in
     let args = k .before .before .before .before .args in
     ap (λ (r : Removed). r .removal)
-    (done-gives (args .block .now) blank (args .e) (args .f) (opens k) blank-size _ (tried .attempt .ensures) (done .enum-told2 .given .1) _ _
+    (done-gives (args .block .now) blank (args .e) (args .f) (opens k) blank-size _ (tried .attempt .ensures) (done .enum-told2 .given .1) _ _ _
     (replaced .replace .ensures))
 
 pub page-spec : {M : Type 1} → statement M
@@ -95,6 +106,8 @@ page-spec =
     enum-known-told
     returns-2
     enum-told-2
+    slice-aggregate-begin
+    begin-requires
     slice-aggregate-replace
     replace-requires
     returns-3)

@@ -6,7 +6,8 @@ use borrow.Author.Needs.{needs}
 use lib.ListN.{length}
 use Rattle.layout.specs.Layout.{blockBytes}
 use Rattle.block.specs.Opening.{openAnswer}
-use Rattle.output.proofs.BlockFilledIn.{begun-empty}
+use Rattle.layout.proofs.BytesOfSlices.{all-bytes}
+use Rattle.output.proofs.BlockAfterwards.{begun-version, begun-length}
 use Rattle.cells.specs.Steps.{cells}
 use Rattle.calls.proofs.CallTests.{opened}
 use Rattle.outcome.proofs.RowsAfterwards.{few-afterwards}
@@ -81,30 +82,20 @@ enum-told-2 c = search needs
 begin-requires : tie.Need-begin-requires
 begin-requires c κs = right (c .before .before .before .before .before .before)
 
-sub-replace : tie.Need-sub-replace
-sub-replace c = search needs
-
-part-replace-start : tie.Need-part-replace-start
-part-replace-start c = search needs
-
-part-replace-end : tie.Need-part-replace-end
-part-replace-end c =
-    let k = c .before .before .before .before .before .before .before .before .before .before in
-    omega (arith, right k .1, c .before .before .out .given)
-
 replace-requires : tie.Need-replace-requires
 replace-requires c κs =
     let begun = c .before .before .before .before in
     let done = begun .before .before in
     let tried = done .before .before .before .before in
     let k = tried .before in
-    let args = k .before .before .before .before .before .before .args in (
+    let args = k .before .before .before .before .before .before .args in
+    let size = begun-length (args .block .now) (right k .0) (args .out .now) _ (right k .1) (begun .begin .ensures) in (
       (
         right k .0,
         replaceable (args .block .now) (args .out .now) (args .e) (args .f) (right k .0) (right k .1) _ (tried .attempt .ensures)
             (done .enum-told2 .given .1),
       ),
-      (whole tried, begun-empty (args .block .now) (right k .0) _ _ (begun .begin .ensures)),
+      (whole tried, omega arith, begun-version (args .block .now) (right k .0) (args .out .now) _ (right k .1) (begun .begin .ensures)),
     )
 
 finish-requires : tie.Need-finish-requires
@@ -117,7 +108,7 @@ finish-requires c κs =
     let args = k .before .before .before .before .before .before .args in
     let given = replaceable (args .block .now) (args .out .now) (args .e) (args .f) (right k .0) (right k .1) _ (tried .attempt .ensures)
     (done .enum-told2 .given .1) in
-    (omega (arith, c .before .before .out2 .given .1, c .before .before .before .before .before .before .before .out .given, right k .1), omega (arith, replaced .replace .ensures .number, few-afterwards (args .block .now) (args .e) (args .f) given))
+    (omega (arith, c .before .before .out2 .given, c .before .before .before .before .before .before .before .out .given, right k .1), omega (arith, replaced .replace .ensures .number, few-afterwards (args .block .now) (args .e) (args .f) given))
 
 same-length-3 : tie.Need-same-length-3
 same-length-3 c = search needs
@@ -132,9 +123,10 @@ returns-3 c =
     let k = tried .before in
     let args = k .before .before .before .before .before .before .args in (
       done-gives (args .block .now) (args .out .now) (args .e) (args .f) (right k .0) (right k .1) _ (tried .attempt .ensures)
-          (done .enum-told2 .given .1) _ _ (replaced .replace .ensures),
+          (done .enum-told2 .given .1) _ _ _ (replaced .replace .ensures),
       done-bytes (args .block .now) (args .out .now) (args .e) (args .f) (right k .0) (right k .1) _ (tried .attempt .ensures)
-          (done .enum-told2 .given .1) _ _ (replaced .replace .ensures) _ _ _ (begun .begin .ensures) refl (finished .finish .ensures),
+          (done .enum-told2 .given .1) _ _ _ (replaced .replace .ensures)
+          (all-bytes (args .block .now) (k .before .before .before .before .before .shared-slice-known .given)) (begun .begin .ensures) _ (finished .finish .ensures),
     )
 
 pub remove-spec : {M : Type 1} → statement M
@@ -154,9 +146,6 @@ remove-spec =
     returns-2
     enum-told-2
     begin-requires
-    sub-replace
-    part-replace-start
-    part-replace-end
     replace-requires
     finish-requires
     same-length-3
