@@ -23,9 +23,12 @@ Inv-loop table n x y z found₀ i₀ found i = (i ≤ n) × (found ≡ sharingIn
 abbrev μ-loop : tie.MeasureT-loop
 μ-loop table n x y z found₀ i₀ found i = n - i
 
+plain-requires : tie.Need-plain-requires Inv-loop μ-loop
+plain-requires c κs = search needs
+
 loop-holds : tie.Need-loop-holds Inv-loop μ-loop
 unfolding pairOf rowsIn numbersFrom those smallest first any regionsOf regionOf mixed
-loop-holds c = (omega arith, refl)
+loop-holds c = (omega arith, rw (c .plain .ensures))
 
 row-in-requires : tie.Need-row-in-requires Inv-loop μ-loop
 row-in-requires c κs = omega arith
@@ -39,7 +42,7 @@ apex-over-requires c κs = search needs
 with-row-requires : tie.Need-with-row-requires Inv-loop μ-loop
 with-row-requires c κs =
     let at = c .before .before .before .before .before in
-    let args = at .before .before .args in
+    let args = at .before .before .before .args in
     let rows = rowsIn (args .table .now) (at .loop .i) in
     rw (at .loop .inv .1) (omega (arith, share-few (args .x ∷ args .y ∷ args .z ∷ []) rows, rows-length (args .table .now) (at .loop .i)))
 
@@ -52,7 +55,7 @@ loop-less c = omega arith
 loop-again : tie.Need-loop-again Inv-loop μ-loop
 loop-again c =
     let at = c .before .before .before .before in
-    let args = at .before .before .args in
+    let args = at .before .before .before .args in
     let face = args .x ∷ args .y ∷ args .z ∷ [] in
     let row = c .before .before .row-in .ensures in
     let held = c .before .holds-face .ensures in
@@ -72,7 +75,7 @@ loop-again c =
 returns : tie.Need-returns Inv-loop μ-loop
 returns c =
     let at = c .before in
-    let e : at .loop .i ≡ at .before .before .args .n = omega arith in
+    let e : at .loop .i ≡ at .before .before .before .args .n = omega arith in
     rw e at (at .loop .inv .1)
 
 pub share-spec : {M : Type 1} → statement M
@@ -81,6 +84,7 @@ share-spec =
     (tie.spec
     Inv-loop
     μ-loop
+    plain-requires
     loop-holds
     row-in-requires
     holds-face-requires
