@@ -1,24 +1,27 @@
--- The 3-2 flip of an edge in a block that opens: the edge's refusal, 13, 20, 15, or the block afterwards.
-use Prim.Native.Nat.{ℕ, suc, _-_, _≤_, min, max}
+-- The 3-2 flip of an edge in a block that opens: the edge's refusal, 13, 20, 23, 15, or the block afterwards.
+use Prim.Native.Nat.{ℕ, suc, _≤_, min, max}
 use mathlib.Core.Bool.{Bool, true, false, cond, not}
 use mathlib.Core.List.{List, [], _∷_, _++_}
 use mathlib.Core.Path.{_≡_, refl, sym, ap, _∙_, subst}
 use native.Mathlib.Omega.{arith}
 use borrow.Author.Tests.{eq-eqb, ne-eqb}
 use lib.Dec.{T, eqb}
-use lib.ListN.{length, take, drop, set, replicate}
-use Rattle.lists.specs.Lists.{every}
+use lib.ListN.{length, take, set, length-append, length-map}
+use Rattle.lists.specs.Lists.{every, any}
 use Rattle.lists.proofs.Lists.{those-split}
 use Rattle.quality.specs.declared.Quality.{Quality}
 use Rattle.rows.specs.declared.Row.{Row}
-use Rattle.rows.specs.Rows.{rowsAt, holdsEdge}
+use Rattle.rows.specs.Rows.{version, rowsIn, withRows, holdsEdge}
 use Rattle.rows.specs.Regions.{regionOf, mixed}
 use Rattle.rows.specs.Steps.{regionsOf}
 use Rattle.rows.specs.declared.Regions.the-variants.{One, Several}
 use Rattle.rows.proofs.RegionsRowByRow.{told-several, told-one}
+use Rattle.marking.specs.Marking.{marksOver, dressBy, newMark}
+use Rattle.dressing.proofs.MarksThatGo.{edge-goes-among}
 use Rattle.answers.specs.declared.Answer.{Answer}
 use Rattle.answers.specs.declared.Answer.the-variants.{Done, Refused}
 use Rattle.layout.specs.Layout.{blockBytes, bodyBytes, maxRows, pointCount, rowCount, coordinatesOf, fieldsOf, sealed}
+use Rattle.layout.specs.Within.{isByte}
 use Rattle.answers.specs.Answers.{Tests, firstRefusal, answerOf}
 use Rattle.block.specs.Opening.{openAnswer}
 use Rattle.answers.proofs.ByNumber.{unlike, testOf, before, stops, front-passed}
@@ -30,13 +33,13 @@ use Rattle.ring.specs.Ring.{Site, siteOf, m, minRing, ringsAlone, edgeTests, le
 use Rattle.ring.specs.SoundRing.{SoundRing}
 use Rattle.ring.proofs.EdgeGoesRound.{wrong-not-three}
 use Rattle.cells.specs.declared.Best.the-variants.{Mark, Worst}
-use Rattle.triangulation.specs.Triangulation.{tableAfter, rowsAfter}
+use Rattle.triangulation.specs.Triangulation.{newRows, tableAfter, rowsAfter}
 use Rattle.triangulation.specs.Best.{chosen}
 use Rattle.triangulation.specs.Steps.{siteIn}
 use Rattle.cells.specs.Steps.{bestOf, cells}
-use Rattle.output.specs.Steps.{tableBytes, tableWith}
-use Rattle.output.proofs.BlockFilledIn.{filled-in}
-use Rattle.calls.specs.Removing.{Sound, noWay, patchAfter}
+use Rattle.output.specs.Steps.{begun}
+use Rattle.output.proofs.BlockAfterwards.{block-finished}
+use Rattle.calls.specs.Removing.{Sound, noWay, markLost, rowsMade, patchAfter}
 use Rattle.calls.specs.Flipping.{flip32Tests, flipTests, patchFlipped, flipAnswer, flipBytes}
 use Rattle.calls.proofs.CallTests.{flip-left}
 use Rattle.calls.proofs.FlipTold.{Told, flip-refused}
@@ -80,7 +83,7 @@ module _ (block out : List ℕ) (e f : ℕ) where
   site = siteOf (fieldsOf block) e f
 
   abbrev after : List Row
-  after = tableAfter site (chosen site)
+  after = patchAfter site .rows
 
   abbrev edge : Tests
   edge = edgeTests ringsAlone site e f
@@ -161,7 +164,21 @@ module _ (block out : List ℕ) (e f : ℕ) where
         room : rowsAfter site ≤ maxRows
         room = three-room block e f (edge-sound ringsAlone block e f opens found i h) three-points
 
-        module _ (one : mixed (site .removed) ≡ false) (way : Way) (is-best : BestWay its way) where
+        -- whether a marked face would go
+        lost-is : (told : Bool) → told ≡ any (marksOver (a ∷ b ∷ b ∷ [])) (rowsIn block (rowCount block)) → markLost site ≡ told
+        unfolding siteOf fieldsOf
+        lost-is told is = sym (is ∙ edge-goes-among a b (rowsIn block (rowCount block)) ∙ rw (p, q))
+
+        pub mark-lost : mixed (site .removed) ≡ false → (told : Bool) → told ≡ any (marksOver (a ∷ b ∷ b ∷ [])) (rowsIn block (rowCount block))
+            → told ≡ true → Kept (Refused 23)
+        unfolding flip32Tests firstRefusal before testOf
+        mark-lost one told is y =
+            refusal 22 (own-left ∙ stops 23 (flip32Tests site) flip-numbered (rw (eq-eqb (m site) minRing three-points, one)) (lost-is told is ∙ y))
+
+        pub marks-stay : (told : Bool) → told ≡ any (marksOver (a ∷ b ∷ b ∷ [])) (rowsIn block (rowCount block)) → told ≡ false → markLost site ≡ false
+        marks-stay told is n = lost-is told is ∙ n
+
+        module _ (one : mixed (site .removed) ≡ false) (stay : markLost site ≡ false) (way : Way) (is-best : BestWay its way) where
           best-way : BestWay site way
           best-way = subst (λ (s : Site). BestWay s way) its-site is-best
 
@@ -169,7 +186,7 @@ module _ (block out : List ℕ) (e f : ℕ) where
           unfolding flip32Tests firstRefusal before testOf
           no-way mark =
               let none = marked site sound (omega (arith, three-points)) way best-way mark in
-              refusal 14 (own-left ∙ stops 15 (flip32Tests site) flip-numbered (rw (eq-eqb (m site) minRing three-points, one)) none)
+              refusal 14 (own-left ∙ stops 15 (flip32Tests site) flip-numbered (rw (eq-eqb (m site) minRing three-points, one, stay)) none)
 
           module _ (best : Quality) (is : way .best ≡ Worst best) where
             some-way : noWay site ≡ false
@@ -177,24 +194,30 @@ module _ (block out : List ℕ) (e f : ℕ) where
 
             zero-answer : flipAnswer block out (e ∷ f ∷ []) ≡ 0
             unfolding flip32Tests firstRefusal
-            zero-answer = same-answer ∙ own-left ∙ rw (eq-eqb (m site) minRing three-points, one, some-way)
+            zero-answer = same-answer ∙ own-left ∙ rw (eq-eqb (m site) minRing three-points, one, stay, some-way)
 
             pub carriable : {region : ℕ} {rows : List ℕ} → region ≡ regionOf (site .removed) → length (way .apexes) ≡ cells
-                → rows ≡ replicate tableBytes 0 → Carriable its region (way .apexes) rows
-            carriable {region} own whole empty = record {
+                → bodyBytes ≤ length rows → version rows ≡ version block → Carriable its region (way .apexes) block rows
+            carriable {region} own whole place same = record {
               own-region = subst (λ (s : Site). region ≡ regionOf (s .removed)) (sym its-site) own;
               room = subst (λ (s : Site). rowsAfter s ≤ maxRows) (sym its-site) room;
               whole = whole;
               stand = is-best .apexes best (ap bestOf is);
-              empty = empty;
+              place = place;
+              same-version = same;
             }
 
             few : length after ≤ maxRows
-            few = omega (arith, chosen-rows site sound (omega (arith, three-points)) some-way, room)
+            unfolding patchAfter tableAfter
+            few =
+                let new = newRows site 1 (chosen site) in
+                let made = length-map new (dressBy (newMark (site .removed) (site .kept))) in
+                omega (arith, chosen-rows site sound (omega (arith, three-points)) some-way, room, length-append (site .kept) (rowsMade site),
+                  length-append (site .kept) new)
 
-            module _ (n : ℕ) (n-is : n ≡ length (tableAfter its (chosen its))) where
+            module _ (n : ℕ) (n-is : n ≡ length (patchAfter its .rows)) where
               own-number : n ≡ length after
-              own-number = n-is ∙ ap (λ (s : Site). length (tableAfter s (chosen s))) its-site
+              own-number = n-is ∙ ap (λ (s : Site). length (patchAfter s .rows)) its-site
 
               pub room-for : n ≤ maxRows
               room-for = omega (arith, own-number, few)
@@ -203,13 +226,12 @@ module _ (block out : List ℕ) (e f : ℕ) where
               done-answer = h ∙ sym (ap answerOf zero-answer)
 
               -- the block that was begun, with the rows in their place, finished
-              pub done-bytes : (rows begun two done : List ℕ) → rows ≡ tableWith (tableAfter its (chosen its))
-                  → begun ≡ take rowsAt block ++ (replicate tableBytes 0 ++ drop bodyBytes out)
-                  → two ≡ take rowsAt begun ++ (rows ++ drop (bodyBytes - rowsAt) (drop rowsAt begun))
+              pub done-bytes : T (every isByte block) → (one two done : List ℕ) → one ≡ begun block out
+                  → two ≡ withRows one 0 (patchAfter its .rows)
                   → done ≡ sealed (take bodyBytes (set two 2 n))
                   → done ≡ flipBytes block out (e ∷ f ∷ [])
               unfolding flipBytes patchFlipped patchAfter siteOf
-              done-bytes rows begun two done r b t d =
+              done-bytes are one two done b t d =
                   rw zero-answer
-                  (filled-in block opens (drop bodyBytes out) begun b out size after few rows
-                  (r ∙ ap (λ (s : Site). tableWith (tableAfter s (chosen s))) its-site) n own-number two t done d)
+                  (block-finished block are opens out one size b after few two (t ∙ ap (λ (s : Site). withRows one 0 (patchAfter s .rows)) its-site)
+                  n own-number done d)

@@ -11,7 +11,6 @@ use cells::Best;
 use edge::edge_at;
 use edge::larger;
 use edge::smaller;
-use layout::BODY_BYTES;
 use layout::POINTS_AT;
 use replacement::best_way;
 use replacement::carry_out;
@@ -43,10 +42,12 @@ pub fn flip_edge(block: &[u8], e: usize, f: usize, out: &mut [u8]) -> Answer
     let count = block[1] as usize;
     let n = block[2] as usize;
     let coordinates = &block[POINTS_AT..ROWS_AT];
-    let table = block;
     let a = smaller(e, f);
     let b = larger(e, f);
-    let way = best_way(coordinates, count, table, n, a, b, found.closed, ring);
+    if dressing::mark_goes(block, n, a, b, b) {
+        return Answer::Refused(answers::MARK_GOES);
+    }
+    let way = best_way(coordinates, count, block, n, a, b, found.closed, ring);
     let best = way.best;
     let apexes = way.apexes;
     let Best::Worst(_) = best else {
@@ -56,7 +57,7 @@ pub fn flip_edge(block: &[u8], e: usize, f: usize, out: &mut [u8]) -> Answer
     let end = carry_out(
         coordinates,
         count,
-        table,
+        block,
         n,
         a,
         b,
@@ -64,7 +65,7 @@ pub fn flip_edge(block: &[u8], e: usize, f: usize, out: &mut [u8]) -> Answer
         ring,
         region,
         &apexes,
-        &mut out[ROWS_AT..BODY_BYTES],
+        out,
     );
     output::finish(out, end);
     answer

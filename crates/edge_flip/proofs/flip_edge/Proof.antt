@@ -10,14 +10,16 @@ use Rattle.rows.specs.Regions.{regionOf, mixed}
 use Rattle.answers.specs.declared.Answer.the-variants.{Done}
 use Rattle.layout.specs.Layout.{blockBytes, fieldsOf}
 use Rattle.block.specs.Opening.{openAnswer}
-use Rattle.tally.proofs.OpensMeasured.{block-size}
+use Rattle.tally.proofs.OpensMeasured.{block-size, few-rows}
 use Rattle.ring.specs.declared.Found.{Found}
 use Rattle.ring.specs.Ring.{siteOf, ringsAlone}
+use Rattle.calls.specs.Removing.{markLost}
 use Rattle.cells.specs.Steps.{cells}
-use Rattle.output.proofs.BlockFilledIn.{begun-empty}
+use Rattle.layout.proofs.BytesOfSlices.{all-bytes}
+use Rattle.output.proofs.BlockAfterwards.{begun-version, begun-length}
 use Rattle.edge.specs.Steps.{edgeFound}
 use Rattle.edge.proofs.EdgeRinged.{ends-bytes, ringed}
-use Rattle.edge_flip.proofs.FlippedEdges.{edge-refuses, not-three, several-regions, one-region, no-way, carriable, room-for, done-answer, done-bytes}
+use Rattle.edge_flip.proofs.FlippedEdges.{edge-refuses, not-three, several-regions, one-region, mark-lost, marks-stay, no-way, carriable, room-for, done-answer, done-bytes}
 use Rattle.edge_flip.proofs.flip_edge.Statement.{statement}
 use Rattle.edge_flip.proofs.flip_edge.Tie as tie
 
@@ -77,7 +79,7 @@ one r =
 
 -- behind the ends in order
 abbrev regionAt : tie.After-larger → At-region
-regionAt k = k .before .before .before .before .before .before
+regionAt k = k .before .before .before .before .before
 
 -- the apexes are whole
 whole : (k : tie.After-best-way) → length (k .best-way .result .apexes) ≡ cells
@@ -139,26 +141,45 @@ part-coordinates-start c = search needs
 part-coordinates-end : tie.Need-part-coordinates-end
 part-coordinates-end c = omega (arith, size (edgeOf (c .before .before)))
 
-sub-table : tie.Need-sub-table
-sub-table c = search needs
-
-part-table-start : tie.Need-part-table-start
-part-table-start c = search needs
-
-part-table-end : tie.Need-part-table-end
-part-table-end c = omega (arith, size (edgeOf (c .before .before .before)))
-
 smaller-requires : tie.Need-smaller-requires
-smaller-requires c κs = ends (edgeOf (c .before .before .before .before))
+smaller-requires c κs = ends (edgeOf (c .before .before .before))
 
 larger-requires : tie.Need-larger-requires
-larger-requires c κs = ends (edgeOf (c .before .before .before .before .before))
+larger-requires c κs = ends (edgeOf (c .before .before .before .before))
+
+mark-goes-requires : tie.Need-mark-goes-requires
+mark-goes-requires c κs = omega (arith, size (edgeOf (regionAt c)), few-rows (blockOf (edgeOf (regionAt c))) (opens (edgeOf (regionAt c))))
+
+returns-4 : tie.Need-returns-4
+returns-4 c =
+    let asked = c .before in
+    let larger = asked .before in
+    let region = regionAt larger in
+    let k = edgeOf region in
+    mark-lost (blockOf k) (outOf k) (eOf k) (fOf k) (opens k) (room k) (foundAt k) (is-found k) (is-done k) (threeAt region .if1 .left) _ _
+    (larger .before .smaller .ensures) (larger .larger .ensures) (one region .0) _ (asked .mark-goes .ensures) (c .if2 .taken)
+
+-- behind 23
+abbrev At-marks : Type 0
+At-marks = tie.Else2
+
+abbrev largerAt : At-marks → tie.After-larger
+largerAt k = k .before .before
+
+stay : (c : At-marks) → let k = edgeOf (regionAt (largerAt c)) in markLost (siteOf (fieldsOf (blockOf k)) (eOf k) (fOf k)) ≡ false
+stay c =
+    let larger = largerAt c in
+    let region = regionAt larger in
+    let k = edgeOf region in
+    marks-stay (blockOf k) (outOf k) (eOf k) (fOf k) (opens k) (room k) (foundAt k) (is-found k) (is-done k) (threeAt region .if1 .left) _ _
+    (larger .before .smaller .ensures) (larger .larger .ensures) _ (c .before .mark-goes .ensures) (c .if2 .left)
 
 best-way-requires : tie.Need-best-way-requires
 best-way-requires c κs =
-    let k = edgeOf (regionAt c) in
-    ringed ringsAlone (blockOf k) (eOf k) (fOf k) (opens k) (foundAt k) (is-found k) (is-done k) _ _ (c .before .smaller .ensures)
-    (c .larger .ensures)
+    let larger = largerAt c in
+    let k = edgeOf (regionAt larger) in
+    ringed ringsAlone (blockOf k) (eOf k) (fOf k) (opens k) (foundAt k) (is-found k) (is-done k) _ _ (larger .before .smaller .ensures)
+    (larger .larger .ensures)
 
 enum-told-4 : tie.Need-enum-told-4
 enum-told-4 c = search needs
@@ -166,36 +187,26 @@ enum-told-4 c = search needs
 enum-told-5 : tie.Need-enum-told-5
 enum-told-5 c = search needs
 
-returns-4 : tie.Need-returns-4
-returns-4 c =
+returns-5 : tie.Need-returns-5
+returns-5 c =
     let best = c .before .before .before in
-    let larger = best .before in
+    let marks = best .before in
+    let larger = largerAt marks in
     let region = regionAt larger in
     let k = edgeOf region in
     no-way (blockOf k) (outOf k) (eOf k) (fOf k) (opens k) (room k) (foundAt k) (is-found k) (is-done k) (threeAt region .if1 .left) _ _
-    (larger .before .smaller .ensures) (larger .larger .ensures) (one region .0) _ (best .best-way .ensures) (c .enum-told5 .given .1)
+    (larger .before .smaller .ensures) (larger .larger .ensures) (one region .0) (stay marks) _ (best .best-way .ensures) (c .enum-told5 .given .1)
 
 begin-requires : tie.Need-begin-requires
 begin-requires c κs = search needs
-
-sub-carry-out : tie.Need-sub-carry-out
-sub-carry-out c = search needs
-
-part-carry-out-start : tie.Need-part-carry-out-start
-part-carry-out-start c = search needs
-
-part-carry-out-end : tie.Need-part-carry-out-end
-part-carry-out-end c =
-    let out = c .before .before in
-    let larger = out .before .before .before .before .before .before .before in
-    omega (arith, out .out .given, room (edgeOf (regionAt larger)))
 
 carry-out-requires : tie.Need-carry-out-requires
 carry-out-requires c κs =
     let begun = c .before .before .before .before in
     let worst = begun .before .before in
     let best = worst .before .before .before in
-    let larger = best .before in
+    let marks = best .before in
+    let larger = largerAt marks in
     let region = regionAt larger in
     let k = edgeOf region in
     let three = threeAt region .if1 .left in
@@ -203,9 +214,10 @@ carry-out-requires c κs =
     let q = larger .larger .ensures in
     let (single, own) = one region in (
       ringed ringsAlone (blockOf k) (eOf k) (fOf k) (opens k) (foundAt k) (is-found k) (is-done k) _ _ p q,
-      carriable (blockOf k) (outOf k) (eOf k) (fOf k) (opens k) (room k) (foundAt k) (is-found k) (is-done k) three _ _ p q single _
+      carriable (blockOf k) (outOf k) (eOf k) (fOf k) (opens k) (room k) (foundAt k) (is-found k) (is-done k) three _ _ p q single (stay marks) _
           (best .best-way .ensures) _ (worst .enum-told4 .given .1) own (whole best)
-          (begun-empty (blockOf k) (opens k) _ _ (begun .begin .ensures)),
+          (omega (arith, begun-length (blockOf k) (opens k) (outOf k) _ (room k) (begun .begin .ensures)))
+          (begun-version (blockOf k) (opens k) (outOf k) _ (room k) (begun .begin .ensures)),
     )
 
 finish-requires : tie.Need-finish-requires
@@ -214,40 +226,43 @@ finish-requires c κs =
     let begun = carried .before .before .before .before .before in
     let worst = begun .before .before in
     let best = worst .before .before .before in
-    let larger = best .before in
+    let marks = best .before in
+    let larger = largerAt marks in
     let region = regionAt larger in
     let k = edgeOf region in
     let three = threeAt region .if1 .left in
     let p = larger .before .smaller .ensures in
     let q = larger .larger .ensures in
     let (single, own) = one region in (
-      omega (arith, c .before .before .out2 .given .1, c .before .before .before .before .before .before .before .out .given, room k),
-      room-for (blockOf k) (outOf k) (eOf k) (fOf k) (opens k) (room k) (foundAt k) (is-found k) (is-done k) three _ _ p q single _
+      omega (arith, c .before .before .out2 .given, c .before .before .before .before .before .before .before .out .given, room k),
+      room-for (blockOf k) (outOf k) (eOf k) (fOf k) (opens k) (room k) (foundAt k) (is-found k) (is-done k) three _ _ p q single (stay marks) _
           (best .best-way .ensures) _ (worst .enum-told4 .given .1) _ (carried .carry-out .ensures .0),
     )
 
 same-length : tie.Need-same-length
 same-length c = search needs
 
-returns-5 : tie.Need-returns-5
-returns-5 c =
+returns-6 : tie.Need-returns-6
+returns-6 c =
     let finished = c .before .before in
     let carried = finished .before .before .before .before in
     let begun = carried .before .before .before .before .before in
     let worst = begun .before .before in
     let best = worst .before .before .before in
-    let larger = best .before in
+    let marks = best .before in
+    let larger = largerAt marks in
     let region = regionAt larger in
     let k = edgeOf region in
     let three = threeAt region .if1 .left in
     let p = larger .before .smaller .ensures in
     let q = larger .larger .ensures in
     let (single, own) = one region in (
-      done-answer (blockOf k) (outOf k) (eOf k) (fOf k) (opens k) (room k) (foundAt k) (is-found k) (is-done k) three _ _ p q single _
+      done-answer (blockOf k) (outOf k) (eOf k) (fOf k) (opens k) (room k) (foundAt k) (is-found k) (is-done k) three _ _ p q single (stay marks) _
           (best .best-way .ensures) _ (worst .enum-told4 .given .1) _ (carried .carry-out .ensures .0),
-      done-bytes (blockOf k) (outOf k) (eOf k) (fOf k) (opens k) (room k) (foundAt k) (is-found k) (is-done k) three _ _ p q single _
-          (best .best-way .ensures) _ (worst .enum-told4 .given .1) _ (carried .carry-out .ensures .0) _ _ _ _ (carried .carry-out .ensures .1)
-          (begun .begin .ensures) refl (finished .finish .ensures),
+      done-bytes (blockOf k) (outOf k) (eOf k) (fOf k) (opens k) (room k) (foundAt k) (is-found k) (is-done k) three _ _ p q single (stay marks) _
+          (best .best-way .ensures) _ (worst .enum-told4 .given .1) _ (carried .carry-out .ensures .0)
+          (all-bytes (blockOf k) (k .before .before .before .before .before .shared-slice-known .given)) _ _ _ (begun .begin .ensures)
+          (carried .carry-out .ensures .1) (finished .finish .ensures),
     )
 
 pub flip-edge-spec : {M : Type 1} → statement M
@@ -269,20 +284,16 @@ flip-edge-spec =
     sub-coordinates
     part-coordinates-start
     part-coordinates-end
-    sub-table
-    part-table-start
-    part-table-end
     smaller-requires
     larger-requires
+    mark-goes-requires
+    returns-4
     best-way-requires
     enum-told-4
     enum-told-5
-    returns-4
+    returns-5
     begin-requires
-    sub-carry-out
-    part-carry-out-start
-    part-carry-out-end
     carry-out-requires
     finish-requires
     same-length
-    returns-5)
+    returns-6)
