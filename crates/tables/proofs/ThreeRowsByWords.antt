@@ -20,9 +20,10 @@ use Rattle.links.specs.Links.{Link, link}
 use Rattle.walk.specs.Walk.{smallest}
 use Rattle.links.proofs.LinksUnderRule.{link-is}
 use Rattle.walk.proofs.TheSmallest.{smallest-is, smallest-le}
-use Rattle.calls.specs.Flipping.{apexOver, Pair, pairOf, threeRows}
+use Rattle.marking.specs.Marking.{dressed}
+use Rattle.calls.specs.Flipping.{apexOver, Pair, pairOf, threeRows, threeMade}
 use Rattle.tables.specs.RoundAnEdge.{reads}
-use Rattle.tables.specs.FlipRows.{Apexes, KeepsRule, ReadFrom, new23}
+use Rattle.tables.specs.FlipRows.{Apexes, KeepsRule, ReadFrom, new23, made23}
 use Rattle.tables.proofs.RowsAndLinks.{read-e, read-i, row-proper}
 use Rattle.tables.proofs.ThreeNumbers.{apart-three}
 use Rattle.tables.proofs.FacingRows.{Facing, both-in, row-of-a, two-facing}
@@ -140,6 +141,10 @@ module _ (patch : Patch) (x y z a b : ℕ) (rule : KeepsRule patch (patch .rows)
           let s = ap (λ (l : Link). l .1) ends-are in
           rw (faces .t-is, a-is, b-is, first-is, r, s)
 
-    -- the new rows, by the flip's search and by words
-    pub new-is : threeRows pair face ≡ new23 (patch .rows) face a b u v w
-    new-is = let (row, k, t, even, its) = found in new-by row k t even its
+    plain-is : threeRows pair face ≡ new23 (patch .rows) face a b u v w
+    plain-is = let (row, k, t, even, its) = found in new-by row k t even its
+
+    -- the new rows with their marks, by the flip's search and by words
+    pub new-is : threeMade pair face ≡ made23 (patch .rows) face a b u v w
+    unfolding pairOf
+    new-is = ap (λ new. dressed (pair .removed) (pair .kept) new) plain-is
