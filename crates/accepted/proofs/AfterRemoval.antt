@@ -1,6 +1,6 @@
 -- What stands in where a list is empty never binds where it is met, and the printed `after` is the summary of the written block.
 use Prim.Native.Nat.{ℕ, _<_, min, max}
-use mathlib.Core.List.{List, map}
+use mathlib.Core.List.{List, _++_, map}
 use mathlib.Core.Option.{some}
 use mathlib.Core.Path.{_≡_}
 use native.Mathlib.Omega.{arith}
@@ -16,19 +16,18 @@ use Rattle.block.proofs.RightBlocks.{opens}
 use Rattle.tally.specs.Tally.{qualities, worstOfPatch}
 use Rattle.summary.specs.Summary.{summaryOf}
 use Rattle.ring.specs.Ring.{Site, siteOf, ringWith}
-use Rattle.triangulation.specs.Triangulation.{tableAfter}
 use Rattle.triangulation.specs.Best.{chosen}
 use Rattle.triangulation.proofs.WholeRing.{after-length}
 use Rattle.calls.specs.declared.Summarised.the-variants.{Summary as Summed}
 use Rattle.calls.specs.declared.Removal.the-variants.{Done}
 use Rattle.calls.specs.Summarising.{summaryGives}
-use Rattle.calls.specs.Removing.{worstNow, patchAfter, removeAnswer, removeBytes, removeGives, Sound}
+use Rattle.calls.specs.Removing.{worstNow, rowsMade, patchAfter, removeAnswer, removeBytes, removeGives, Sound}
 use Rattle.calls.proofs.CallTests.{removes}
 use Rattle.calls.proofs.SoundEdges.{some-removed}
 use Rattle.tables.proofs.RingReplaced.{length-fits, worst-some, worst-of-removed}
 use Rattle.accepted.proofs.CallsNumbered.{gives-done}
 use Rattle.accepted.proofs.AcceptedBytes.{patch-is}
-use Rattle.accepted.proofs.ChosenWay.{some-way, site-chosen}
+use Rattle.accepted.proofs.ChosenWay.{made-length, some-way, site-chosen}
 use Rattle.accepted.proofs.AcceptedCalls.{remove-accepted}
 
 -- ---- the summary
@@ -64,7 +63,7 @@ module _ (block out : List ℕ) (e f : ℕ) (done : removeAnswer block out e f �
 
   -- the written block holds the patch afterwards
   pub fields-after : fieldsOf (removeBytes block out e f) ≡ patchAfter its
-  unfolding patchAfter siteOf tableAfter
+  unfolding patchAfter siteOf
   fields-after =
       let made = remove-accepted block out e f done in
       patch-is (fieldsOf (removeBytes block out e f)) (made .points) (made .rows)
@@ -89,4 +88,5 @@ module _ (block out : List ℕ) (e f : ℕ) (done : removeAnswer block out e f �
       let three = length-fits its (r .length-right) .0 in
       let (t, w) = some-way block e f (r .sound) three (r .way) in
       let best = site-chosen block e f (r .sound) three t w in
-      worst-some (rowQuality (its .points)) (tableAfter its (chosen its)) (omega (arith, after-length its (chosen its) (best .way .spans)))
+      worst-some (rowQuality (its .points)) (its .kept ++ rowsMade its)
+      (omega (arith, made-length its, after-length its (chosen its) (best .way .spans)))

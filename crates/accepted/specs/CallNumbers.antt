@@ -13,12 +13,12 @@ sealNumbers = 0 ∷ 1 ∷ 3 ∷ 4 ∷ 5 ∷ 7 ∷ 8 ∷ 22 ∷ []
 
 -- the numbers that a removal answers
 abbrev pub removeNumbers : List ℕ
-removeNumbers = openNumbers ++ (9 ∷ 10 ∷ 11 ∷ 12 ∷ 13 ∷ 19 ∷ 20 ∷ 14 ∷ 15 ∷ 16 ∷ [])
+removeNumbers = openNumbers ++ (9 ∷ 10 ∷ 11 ∷ 12 ∷ 13 ∷ 19 ∷ 20 ∷ 23 ∷ 14 ∷ 15 ∷ 16 ∷ [])
 
 -- the numbers that a flip answers, by how many it is given: of an edge, of a face, and with any other count, with which it is never done
 abbrev pub flipNumbers : List ℕ → List ℕ
 flipNumbers =
     byCount
-    (λ e f. openNumbers ++ (9 ∷ 10 ∷ 11 ∷ 12 ∷ 13 ∷ 20 ∷ 15 ∷ []))
-    (λ x y z. openNumbers ++ (9 ∷ 10 ∷ 11 ∷ 18 ∷ 20 ∷ 14 ∷ 15 ∷ []))
+    (λ e f. openNumbers ++ (9 ∷ 10 ∷ 11 ∷ 12 ∷ 13 ∷ 20 ∷ 23 ∷ 15 ∷ []))
+    (λ x y z. openNumbers ++ (9 ∷ 10 ∷ 11 ∷ 18 ∷ 20 ∷ 23 ∷ 14 ∷ 15 ∷ []))
     (1 ∷ 2 ∷ 3 ∷ 4 ∷ 5 ∷ 7 ∷ 8 ∷ 22 ∷ 21 ∷ [])

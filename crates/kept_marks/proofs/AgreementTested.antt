@@ -10,10 +10,10 @@ use Rattle.lists.proofs.Lists.{every-at, every-i}
 use Rattle.lists.proofs.Images.{flatMap-i, flatMap-e}
 use Rattle.rows.specs.declared.Row.{Row}
 use Rattle.mesh.specs.Mesh.{Face, sameFace, reversed}
-use Rattle.mesh.proofs.TurnedFaces.{uses-turned, Turned, stay, same-turned, turned-same, turned-sym, turned-trans, turned-reversed}
+use Rattle.mesh.proofs.TurnedFaces.{uses-turned, Turned, same-turned, turned-same, turned-sym, turned-trans, turned-reversed}
 use Rattle.marking.specs.Marking.{markedFaces, marks, agree}
 use Rattle.kept_marks.specs.Replacing.{AllDifferent, Agree}
-use Rattle.kept_marks.proofs.MarksOfRows.{marks-e, marks-i, uses-marked, marked-uses, marks-turned, one-mark}
+use Rattle.kept_marks.proofs.MarksOfRows.{marks-e, marks-i, uses-marked, marked-uses, marks-turned, mark-at}
 
 -- a face and another, the same the other way round, are both marked or neither is
 meets : Face × Bool → Face × Bool → Bool
@@ -69,15 +69,9 @@ agree-tested rows h apart =
     let u = flatMap-e markedFaces rows mk in
     meets-i g k λ e. go g k (t .0) (u .0) (t .1) (u .1) (t .2) (u .2) e
   where
-    -- one of the row's faces is marked by the row exactly when it has the mark
-    at : (g : Face × Bool) (t : Row) → List·Memᴰ t rows → List·Memᴰ g (markedFaces t) → marks (g .0) t ≡ g .1
-    at g t mt mg = same-test (marks (g .0) t) (g .1)
-        (λ marked. let k = marks-e (g .0) t marked in subst T (sym (one-mark t (apart t mt) g (k .0) mg (k .1) (k .2))) (k .3))
-        (λ marked. marks-i (g .0) g t mg stay marked)
-
     go : (g k : Face × Bool) (t u : Row) → List·Memᴰ t rows → List·Memᴰ u rows → List·Memᴰ g (markedFaces t) → List·Memᴰ k (markedFaces u)
         → Turned (reversed (g .0)) (k .0) → g .1 ≡ k .1
     go g k t u mt mu mg mk e =
-        sym (at g t mt mg)
+        sym (mark-at t (apart t mt) g mg)
         ∙ h t u mt mu (g .0) (marked-uses g t mg) (rw (uses-turned _ _ u e) (marked-uses k u mk))
-        ∙ marks-turned _ _ u e ∙ at k u mu mk
+        ∙ marks-turned _ _ u e ∙ mark-at u (apart u mu) k mk

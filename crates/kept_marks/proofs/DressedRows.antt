@@ -2,7 +2,7 @@
 -- those of them that the marking marks. Its numbers, region and measure, and with them the mesh rule and the totals, do not change.
 use Prim.Native.Nat.{ℕ, _+_}
 use mathlib.Core.Bool.{Bool, true, false, _&&_}
-use mathlib.Core.List.{List, [], _∷_, _++_, map, List·Memᴰ·head, List·Memᴰ·tail}
+use mathlib.Core.List.{List, [], _∷_, _++_, map, List·Memᴰ·head, List·Memᴰ·tail, Memᴰ·of-map}
 use mathlib.Core.Path.{_≡_, refl, sym, ap, _∙_}
 use lib.Dec.{T}
 use lib.IntN.{_+ℤ_}
@@ -19,6 +19,7 @@ use Rattle.rows.specs.Tetrahedra.{evenly, rearranged}
 use Rattle.rows.proofs.EvenMoves.{spin, cross, moved, even-i}
 use Rattle.rows.proofs.EvenGroup.{even-refl, even-trans}
 use Rattle.rows.proofs.EvenMeasure.{total-append}
+use Rattle.rows.proofs.RegionsOfRows.{AllIn}
 use Rattle.mesh.specs.Mesh.{Face, faces, uses, numbersFit, keepsMeshRule}
 use Rattle.mesh.proofs.TurnedFaces.{Turned, on, back, FaceOf, no-p, no-q, no-r, no-s, uses-face, face-uses}
 use Rattle.mesh.proofs.FacesCounted.{apart-same}
@@ -42,9 +43,14 @@ module _ (marked : Face → Bool) where
   unfolding dressBy
   dress-holds t n = refl
 
-  pub dress-region : (t : Row) → dressBy marked t .region ≡ t .region
+  dress-region : (t : Row) → dressBy marked t .region ≡ t .region
   unfolding dressBy
   dress-region t = refl
+
+  pub dress-regions : (region : ℕ) (rows : List Row) → AllIn region rows → AllIn region (map (dressBy marked) rows)
+  dress-regions region rows all row k =
+      let (t, i, e) = Memᴰ·of-map (dressBy marked) rows k in
+      ap (λ (row : Row). row .region) (sym e) ∙ dress-region t ∙ all t i
 
   -- it uses the faces of the row
   pub dress-uses : (f : Face) (t : Row) → uses f (dressBy marked t) ≡ uses f t

@@ -144,7 +144,7 @@ one-place i j mi mj e =
     go false b h k = absurd h
 
 -- so has a face of a row with different numbers
-pub one-mark : (t : Row) → T (different (numbers t)) → (g h : Face × Bool) → List·Memᴰ g (markedFaces t) → List·Memᴰ h (markedFaces t)
+one-mark : (t : Row) → T (different (numbers t)) → (g h : Face × Bool) → List·Memᴰ g (markedFaces t) → List·Memᴰ h (markedFaces t)
     → Turned (g .0) (h .0) → g .1 ≡ h .1
 unfolding markedFaces fourPlaces markAt faces
 one-mark t d g h mg mh e =
@@ -155,3 +155,10 @@ one-mark t d g h mg mh e =
     let turned = places-turned (suc (sum (numbers t))) t (different-proper t d) (i .0) (j .0) (four i mi) (four j mj)
     (subst (λ x. Turned (faceAt t (i .0)) (x .0)) (sym isH) (subst (λ x. Turned (x .0) (h .0)) (sym isG) e)) in
     ap (λ x. x .1) (sym isG) ∙ ap (markAt t) (one-place i j mi mj turned) ∙ ap (λ x. x .1) isH
+
+-- so it marks one of its faces exactly when that has the mark
+pub mark-at : (t : Row) → T (different (numbers t)) → (g : Face × Bool) → List·Memᴰ g (markedFaces t) → marks (g .0) t ≡ g .1
+mark-at t d g m =
+    same-test (marks (g .0) t) (g .1)
+    (λ marked. let k = marks-e (g .0) t marked in subst T (sym (one-mark t d g (k .0) m (k .1) (k .2))) (k .3))
+    (λ marked. marks-i (g .0) g t m stay marked)

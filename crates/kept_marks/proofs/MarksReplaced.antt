@@ -28,11 +28,11 @@ use Rattle.kept_marks.proofs.PartedTables.{one-passes, parted-any, remo
 any-used : (f : Face) (rows : List Row) → T (any (marks f) rows) → T (any (uses f) rows)
 any-used f rows h = let k = any-e (marks f) rows h in any-i (uses f) rows (k .1) (marks-uses f (k .0) (k .2))
 
-marked-e : (rows : List Row) (f : Face) → T (markedIn rows f) → T (any (marks f) rows) ⊎ T (any (marks (reversed f)) rows)
+pub marked-e : (rows : List Row) (f : Face) → T (markedIn rows f) → T (any (marks f) rows) ⊎ T (any (marks (reversed f)) rows)
 unfolding markedIn
 marked-e rows f h = or-e (any (marks f) rows) (any (marks (reversed f)) rows) h
 
-marked-i : (rows : List Row) (f : Face) {t : Row} → List·Memᴰ t rows → T (marks f t) → T (markedIn rows f)
+pub marked-i : (rows : List Row) (f : Face) {t : Row} → List·Memᴰ t rows → T (marks f t) → T (markedIn rows f)
 unfolding markedIn
 marked-i rows f m h = or-l (any (marks f) rows) (any (marks (reversed f)) rows) (any-i (marks f) rows m h)
 
@@ -55,8 +55,17 @@ either-used f rows h =
     let k = any-e (uses f) rows h in
     any-i (usesEitherWay f) rows (k .1) (or-l (uses f (k .0)) (uses (reversed f) (k .0)) (k .2))
 
+-- turning the face does not change whether it does
+pub marked-turns : (rows : List Row) → Turns (markedIn rows)
+unfolding markedIn
+marked-turns rows f g e =
+    rw (
+      any-same (marks f) (marks g) rows (λ t m. marks-turned f g t e),
+      any-same (marks (reversed f)) (marks (reversed g)) rows (λ t m. marks-turned (reversed f) (reversed g) t (turned-reversed e)),
+    )
+
 -- a row that uses a face marks it exactly when the table does
-own-mark : (rows : List Row) → UsedOnce rows → Agree rows → MarkedBy (markedIn rows) rows
+pub own-mark : (rows : List Row) → UsedOnce rows → Agree rows → MarkedBy (markedIn rows) rows
 own-mark rows once agrees f t m used = same-test (marks f t) (markedIn rows f) (marked-i rows f m) (λ h. go (marked-e rows f h))
   where
     go : T (any (marks f) rows) ⊎ T (any (marks (reversed f)) rows) → T (marks f t)

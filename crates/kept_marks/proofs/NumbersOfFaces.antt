@@ -1,23 +1,23 @@
 -- The three numbers of a face: turned or the other way round it has the same, and a row holds those of its faces. A marked face that has
 -- all of some numbers is one that 23 sees.
 use Prim.Native.Nat.{ℕ}
-use mathlib.Core.Bool.{Bool, false, _&&_}
+use mathlib.Core.Bool.{false, _&&_}
 use mathlib.Core.List.{List, [], _∷_, _++_, List·Memᴰ, List·Memᴰ·head, List·Memᴰ·tail, List·Memᴰ·not-nil, Memᴰ·append-right}
 use mathlib.Core.Logic.{_⊎_, inl, inr}
 use mathlib.Core.Path.{_≡_, _∙_, subst}
 use lib.Dec.{T}
 use Rattle.lists.specs.Lists.{every, any, has}
-use Rattle.lists.proofs.Tests.{and-i, or-l, or-e}
+use Rattle.lists.proofs.Tests.{and-l, and-r, and-i, or-l, or-e}
 use Rattle.lists.proofs.Places.{in-cases}
 use Rattle.lists.proofs.Lists.{any-i, any-e, every-at, every-i}
 use Rattle.lists.proofs.Numbers.{has-i, has-e}
 use Rattle.rows.specs.declared.Row.{Row}
 use Rattle.rows.specs.Rows.{numbers, holds}
 use Rattle.mesh.specs.Mesh.{Face, uses, usesEitherWay, reversed}
-use Rattle.mesh.proofs.TurnedFaces.{Turned, as-is, once, twice, FaceOf, no-p, no-q, no-r, no-s, uses-face}
+use Rattle.mesh.proofs.TurnedFaces.{Turned, as-is, once, twice, stay, FaceOf, no-p, no-q, no-r, no-s, uses-face}
 use Rattle.marking.specs.Marking.{markedFaces, marks, marksOver, markGoes}
 use Rattle.kept_marks.specs.Replacing.{hasAll, NoMarkGoes}
-use Rattle.kept_marks.proofs.MarksOfRows.{marks-e, marks-uses}
+use Rattle.kept_marks.proofs.MarksOfRows.{marks-e, marks-i, marks-uses}
 
 abbrev pub threeOf : Face → List ℕ
 threeOf f = f .0 ∷ f .1 ∷ f .2 ∷ []
@@ -77,16 +77,20 @@ all-in ns f h {n} m = has-e (threeOf f) n (every-at (has (threeOf f)) ns h m)
 pub in-all : (ns : List ℕ) (f : Face) → ((n : ℕ) → List·Memᴰ n ns → List·Memᴰ n (threeOf f)) → T (hasAll ns f)
 in-all ns f h = every-i (has (threeOf f)) ns (λ n m. has-i (threeOf f) (h n m))
 
--- a marked face with all these numbers is seen
-goes-seen : (ns : List ℕ) (removed : List Row) (f : Face) {row : Row} → List·Memᴰ row removed → T (marks f row) → T (hasAll ns f)
-    → T (markGoes ns removed)
+-- a row marks a face that has all these numbers, as a statement
+
+pub over-e : (ns : List ℕ) (row : Row) → T (marksOver ns row) → (f : Face) × T (hasAll ns f) × T (marks f row)
 unfolding marksOver
-goes-seen ns removed f {row} m marked all =
+over-e ns row h =
+    let (g, at, k) = any-e (λ g. hasAll ns (g .0) && g .1) (markedFaces row) h in
+    (g .0, and-l (hasAll ns (g .0)) (g .1) k, marks-i (g .0) g row at stay (and-r (hasAll ns (g .0)) (g .1) k))
+
+pub over-i : (ns : List ℕ) (row : Row) (f : Face) → T (hasAll ns f) → T (marks f row) → T (marksOver ns row)
+unfolding marksOver
+over-i ns row f all marked =
     let (g, at, e, mark) = marks-e f row marked in
-    let over : Face → Bool = λ f. every (has (f .0 ∷ f .1 ∷ f .2 ∷ [])) ns in
-    any-i (marksOver ns) removed m
-    (any-i (λ g. over (g .0) && g .1) (markedFaces row) at
-    (and-i (over (g .0)) (g .1) (in-all ns (g .0) (λ n m. turned-in e (all-in ns f all m))) mark))
+    any-i (λ g. hasAll ns (g .0) && g .1) (markedFaces row) at
+    (and-i (hasAll ns (g .0)) (g .1) (in-all ns (g .0) (λ n m. turned-in e (all-in ns f all m))) mark)
 
 -- so where the other faces pass to new rows and 23 is not given, no marked face goes
 pub none-goes : (ns : List ℕ) (removed kept new : List Row)
@@ -98,7 +102,7 @@ none-goes ns removed kept new passes clear f marked =
   where
     go : {row : Row} → List·Memᴰ row removed → T (marks f row) → T (hasAll ns f) ⊎ T (any (uses f) new)
         → T (any (usesEitherWay f) (kept ++ new))
-    go k h (inl all) = absurd (subst T clear (goes-seen ns removed f k h all))
+    go k h (inl all) = absurd (subst T clear (any-i (marksOver ns) removed k (over-i ns _ f all h)))
     go k h (inr used) =
         let (row, k, u) = any-e (uses f) new used in
         any-i (usesEitherWay f) (kept ++ new) (Memᴰ·append-right kept k) (or-l (uses f row) (uses (reversed f) row) u)

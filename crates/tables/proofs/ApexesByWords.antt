@@ -18,7 +18,7 @@ use Rattle.rows.specs.Tetrahedra.{arrangedFrom}
 use Rattle.rows.proofs.EvenMoves.{even-holds}
 use Rattle.layout.specs.Layout.{Patch}
 use Rattle.walk.specs.Walk.{smallest}
-use Rattle.calls.specs.Flipping.{apexOver, Pair, pairOf, threeRows, patchAfter23}
+use Rattle.calls.specs.Flipping.{apexOver, Pair, pairOf, threeRows, threeMade, patchAfter23}
 use Rattle.tables.specs.FlipRows.{KeepsRule, facing, OneApex, Apexes}
 use Rattle.tables.proofs.RowsOverAFace.{AllOver, two-only}
 use Rattle.tables.proofs.FacingRows.{Facing, both-in, all-over}
@@ -231,4 +231,4 @@ pub one-more : (patch : Patch) (face : List ℕ) {a b : ℕ} → TwoApexes patch
 unfolding patchAfter23 threeRows pairOf
 one-more patch face two =
     let pair = pairOf patch face in
-    omega (arith, length-append (pair .kept) (threeRows pair face), those-split (holdsFace face) (patch .rows), two .two)
+    omega (arith, length-append (pair .kept) (threeMade pair face), those-split (holdsFace face) (patch .rows), two .two)

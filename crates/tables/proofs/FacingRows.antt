@@ -8,7 +8,7 @@ use native.Mathlib.Omega.{arith}
 use borrow.Author.Tests.{not-false}
 use lib.Dec.{T, ltb}
 use lib.IntN.{ℤ, pos, _+ℤ_, +ℤ-idr, +ℤ-assoc, +ℤ-comm}
-use lib.ListN.{length}
+use lib.ListN.{length, getD}
 use Rattle.lists.specs.Lists.{every, those, different}
 use Rattle.lists.proofs.Tests.{and-r, is-yes}
 use Rattle.lists.proofs.Lists.{every-at, those-e}
@@ -20,7 +20,7 @@ use Rattle.volume.proofs.VolumeIdentities.{five-points}
 use Rattle.rows.specs.declared.Row.{Row}
 use Rattle.mesh.specs.Mesh.{uses, numbersFit, keepsMeshRule}
 use Rattle.rows.specs.RowMeasure.{place, rowD, totalD}
-use Rattle.rows.specs.Rows.{holdsFace}
+use Rattle.rows.specs.Rows.{numbers, holdsFace}
 use Rattle.rows.specs.Tetrahedra.{rearranged, arrangedFrom}
 use Rattle.rows.proofs.EvenMeasure.{even-D, total-split, total-append}
 use Rattle.mesh.proofs.MeshRuleStated.{keeps-fits, keeps-hits}
@@ -29,9 +29,12 @@ use Rattle.walk.specs.Walk.{smallest}
 use Rattle.ring.specs.Ring.{numbersWrong}
 use Rattle.walk.proofs.TheSmallest.{smallest-in}
 use Rattle.calls.specs.Flipping.{Pair, pairOf, threeRows, patchAfter23}
+use Rattle.marking.specs.Marking.{newMark}
+use Rattle.kept_marks.proofs.DressedRows.{dress-total}
+use Rattle.kept_marks.proofs.FlipMarks.{TwoGo}
 use Rattle.tables.proofs.RowsOverAFace.{Over, AllOver, row-over, the-two, both-over, b-last, upA}
 
--- With t = (a,u,v,w) an even arrangement of a's row, b's row is (u,v,w,b).
+-- With t = (a,u,v,w) an even arrangement of a's row, o = (u,v,w,b) is one of b's row.
 pub record Facing (count : ℕ) (pair : Pair) (face : List ℕ) : Type 0 where
   pub rowA : Row
   pub rowB : Row
@@ -41,7 +44,9 @@ pub record Facing (count : ℕ) (pair : Pair) (face : List ℕ) : Type 0 where
   pub a-row : Over count face (smallest face) rowA t
   pub at-a : t .p ≡ pair .a
   pub less : pair .a < pair .b
-  pub b-row : T (rearranged (record { p = t .q; q = t .r; r = t .s; s = pair .b; region = rowB .region }) rowB)
+  pub o : Row
+  pub b-row : T (rearranged o rowB)
+  pub b-numbers : numbers o ≡ t .q ∷ t .r ∷ t .s ∷ pair .b ∷ []
 
 -- both stand among the rows that go
 pub both-in : {count : ℕ} {pair : Pair} {face : List ℕ} (f : Facing count pair face)
@@ -91,6 +96,7 @@ module _ (count : ℕ) (patch : Patch) (face : List ℕ) (three : length face �
   two-facing none one ends =
       let two = the-two count face rows all-over none one ends in
       let both = both-over count face rows all-over none one ends in
+      let last = b-last count face rows all-over none one ends in
       record {
         rowA = two .rowA;
         rowB = two .rowB;
@@ -100,8 +106,28 @@ module _ (count : ℕ) (patch : Patch) (face : List ℕ) (three : length face �
         a-row = both .0;
         at-a = both .0 .at-apex ∙ two .apex-a;
         less = two .less;
-        b-row = b-last count face rows all-over none one ends;
+        o = last .0;
+        b-row = last .1;
+        b-numbers = last .2;
       }
+
+-- so these two go, as the law of the marks asks for them
+pub facing-go : {count : ℕ} {pair : Pair} {face : List ℕ} → Facing count pair face → TwoGo pair face
+facing-go f = record {
+  rowA = f .rowA;
+  rowB = f .rowB;
+  order = f .order;
+  t = f .t;
+  t-is = f .t-is;
+  even-a = f .a-row .even;
+  at-a = f .at-a;
+  inside = f .a-row .inside;
+  outside = f .a-row .outside;
+  o = f .o;
+  even-b = f .b-row;
+  b-numbers = f .b-numbers;
+  ends = λ e. omega (arith, f .less);
+}
 
 -- ---- the total D
 
@@ -109,6 +135,12 @@ three-sum : (x y z : ℤ) → x +ℤ (y +ℤ (z +ℤ pos 0)) ≡ x +ℤ y +ℤ z
 three-sum x y z = ap (λ s. x +ℤ (y +ℤ s)) (+ℤ-idr z) ∙ sym (+ℤ-assoc x y z)
 
 module _ (points : List Point) where
+  -- D goes by the numbers alone
+  rowD-of : {p q r s : ℕ} (row : Row) → numbers row ≡ p ∷ q ∷ r ∷ s ∷ []
+      → rowD points row ≡ D (place points p) (place points q) (place points r) (place points s)
+  unfolding rowD
+  rowD-of row e = ap (λ ns. let at : ℕ → Point = λ i. place points (getD ns i 0) in D (at 0) (at 1) (at 2) (at 3)) e
+
   two-total : (x y : Row) → totalD points (x ∷ y ∷ []) ≡ rowD points x +ℤ rowD points y
   unfolding totalD
   two-total x y = ap (λ z. rowD points x +ℤ z) (+ℤ-idr (rowD points y))
@@ -133,13 +165,14 @@ module _ (points : List Point) where
         let u = at (t .q) in
         let v = at (t .r) in
         let w = at (t .s) in
-        let last : Row = record { p = t .q; q = t .r; r = t .s; s = pair .b; region = f .rowB .region } in
+        let o = f .o in
         rw (f .t-is)
         (three-sum (D a b u v) (D a b v w) (D a b w u)
         ∙ five-points a b u v w
         ∙ ap (λ n. D (at n) u v w +ℤ D u v w b) (sym (f .at-a))
-        ∙ ap (λ z. z +ℤ rowD points last) (even-D points t (f .rowA) (f .a-row .even))
-        ∙ ap (λ z. rowD points (f .rowA) +ℤ z) (even-D points last (f .rowB) (f .b-row))
+        ∙ ap (λ z. rowD points t +ℤ z) (sym (rowD-of o (f .b-numbers)))
+        ∙ ap (λ z. z +ℤ rowD points o) (even-D points t (f .rowA) (f .a-row .even))
+        ∙ ap (λ z. rowD points (f .rowA) +ℤ z) (even-D points o (f .rowB) (f .b-row))
         ∙ sym removed-total)
 
 -- so the whole table keeps its total
@@ -148,7 +181,8 @@ pub flipped-total : {count : ℕ} (patch : Patch) (face : List ℕ) → Facing c
 unfolding patchAfter23 pairOf
 flipped-total patch face f =
     let pair = pairOf patch face in
-    total-append (patch .points) (pair .kept) (threeRows pair face)
+    dress-total (newMark (pair .removed) (pair .kept)) (patch .points) (pair .kept) (threeRows pair face)
+    ∙ total-append (patch .points) (pair .kept) (threeRows pair face)
     ∙ ap (λ z. totalD (patch .points) (pair .kept) +ℤ z) (three-total (patch .points) f)
     ∙ +ℤ-comm (totalD (patch .points) (pair .kept)) (totalD (patch .points) (pair .removed))
     ∙ total-split (patch .points) (holdsFace face) (patch .rows)

@@ -31,7 +31,8 @@ use Rattle.links.proofs.LinksUnderRule.{link-is}
 use Rattle.walk.proofs.TheSmallest.{smallest-same}
 use Rattle.links.proofs.SameLinks.{row-across}
 use Rattle.triangulation.proofs.AcrossTables.{those-across, length-across, mixed-across, region-across}
-use Rattle.calls.specs.Flipping.{apexOver, Pair, pairOf, threeRows, patchAfter23, flip23Tests}
+use Rattle.calls.specs.Flipping.{apexOver, Pair, pairOf, threeRows, threeMade, patchAfter23, flip23Tests}
+use Rattle.tables.proofs.MarksAcrossTables.{goes-across, new-mark-across}
 use Rattle.tables.proofs.RowsOverAFace.{Over}
 use Rattle.tables.proofs.FacingRows.{Facing, both-in, row-of-a, face-apart, all-over, two-facing}
 use Rattle.tables.proofs.SameTables.{SameTables, other-way}
@@ -122,9 +123,9 @@ module _ (patch other : Patch) (x y z : ℕ) (same : SameTables patch other) whe
       -- b's row does not hold a
       not-b : T (holds (g .rowB) (here .a)) → ⊥
       not-b h =
-          let last : Row = record { p = g .t .q; q = g .t .r; r = g .t .s; s = there .b; region = g .rowB .region } in
           let a : here .a ≡ g .t .p = a-same ∙ sym (g .at-a) in
-          in-cases (has-e (numbers last) (here .a) (subst T (sym (even-holds last (g .rowB) (g .b-row) (here .a))) h))
+          let held = has-e (numbers (g .o)) (here .a) (subst T (sym (even-holds (g .o) (g .rowB) (g .b-row) (here .a))) h) in
+          in-cases (subst (List·Memᴰ (here .a)) (g .b-numbers) held)
           (λ e. g .a-row .proper .p-q (sym a ∙ e))
           λ k. in-cases k (λ e. g .a-row .proper .p-r (sym a ∙ e))
           λ k. in-cases k (λ e. g .a-row .proper .p-s (sym a ∙ e))
@@ -151,14 +152,21 @@ module _ (patch other : Patch) (x y z : ℕ) (same : SameTables patch other) whe
           ∙ ap (λ n. link (g .t .p) n (g .rowA)) (f .a-row .at-u ∙ sym (g .a-row .at-u))
           ∙ link-is (g .rowA) (g .t) proper (g .a-row .even)
 
-      pub three-same : threeRows here list ≡ threeRows there list
+      plain-same : threeRows here list ≡ threeRows there list
       unfolding threeRows
-      three-same =
+      plain-same =
           let q : f .t .q ≡ g .t .q = f .a-row .at-u ∙ sym (g .a-row .at-u) in
           let r = ap (λ (l : Link). l .0) ends-same in
           let s = ap (λ (l : Link). l .1) ends-same in
           let region = region-across (here .removed) (there .removed) (removed-same patch other x y z same) in
           rw (f .t-is, g .t-is, a-same, b-same, q, r, s, region)
+
+      -- with the same marks
+      pub three-same : threeMade here list ≡ threeMade there list
+      three-same =
+          let marked = new-mark-across (here .removed) (here .kept) (there .removed) (there .kept)
+          (removed-same patch other x y z same) (kept-same patch other x y z same) in
+          rw (marked, plain-same)
 
       -- 14 and 15
 
@@ -167,7 +175,7 @@ module _ (patch other : Patch) (x y z : ℕ) (same : SameTables patch other) whe
       unfolding patchAfter23
       after-keeps =
           let count = length (patch .points) in
-          let new = threeRows there list in
+          let new = threeMade there list in
           ap (λ rows. keepsMeshRule count (here .kept ++ rows)) three-same
           ∙ same-keeps count (here .kept ++ new) (there .kept ++ new)
           (same-append (here .kept) (there .kept) new new (kept-same patch other x y z same) (λ row. refl))
@@ -178,20 +186,27 @@ module _ (patch other : Patch) (x y z : ℕ) (same : SameTables patch other) whe
     after-length =
         omega (
           arith,
-          length-append (here .kept) (threeRows here list),
-          length-append (there .kept) (threeRows there list),
+          length-append (here .kept) (threeMade here list),
+          length-append (there .kept) (threeMade there list),
           length-across (here .kept) (there .kept) (kept-same patch other x y z same),
         )
 
   -- ---- the answers
 
-  -- 9 to 11, 18 and 20
+  -- 9 to 11, 18, 20 and 23
   before-same : T (different list) → before 14 (flip23Tests patch list) ≡ before 14 (flip23Tests other list)
   unfolding before flip23Tests
   before-same apart =
       let gone = removed-same patch other x y z same in
       let size = length-across (here .removed) (there .removed) gone in
-      rw (wrong-same patch other x y z same, size, a-same apart, b-same apart, mixed-across (here .removed) (there .removed) gone)
+      rw (
+        wrong-same patch other x y z same,
+        size,
+        a-same apart,
+        b-same apart,
+        mixed-across (here .removed) (there .removed) gone,
+        goes-across list (here .removed) (there .removed) gone,
+      )
 
   -- where they are passed, the two rows face each other in both tables
   pub both-face : T (different list) → (length (here .removed) ≡ 0 → ⊥) → (length (here .removed) ≡ 1 → ⊥) → (here .a ≡ here .b → ⊥)

@@ -10,6 +10,8 @@ pub mod ThreeRowsByWords
 pub mod RingReplaced
 pub mod RingOfThree
 pub mod SameTables
+pub mod MarksAcrossTables
 pub mod RemovalInAnyOrder
 pub mod FlipInAnyOrder
+pub mod OwnDressing
 pub mod FlippedBack

@@ -40,8 +40,10 @@ use Rattle.triangulation.proofs.WorstOfWays.{rows-fractions}
 use Rattle.triangulation.proofs.WholeRing.{way-listed, listed-way}
 use Rattle.triangulation.proofs.AcrossTables.{those-across, length-across, mixed-across, region-across}
 use Rattle.triangulation.proofs.BestInAnyRowOrder.{kin, piece-same, barred-same, worst-same, rows-same}
-use Rattle.calls.specs.Removing.{worstNow, noWay, noneBetter, removalTests}
+use Rattle.calls.specs.Removing.{worstNow, noWay, noneBetter, markLost, rowsMade, removalTests}
 use Rattle.calls.specs.Flipping.{flip32Tests}
+use Rattle.marking.specs.Marking.{markGoes}
+use Rattle.tables.proofs.MarksAcrossTables.{goes-across, new-mark-across}
 use Rattle.tables.proofs.SameTables.{SameTables, other-way}
 use Rattle.tables.proofs.RingReplaced.{length-fits, worst-of-removed, some-goes}
 
@@ -116,6 +118,15 @@ module _ (patch other : Patch) (e f : ℕ) (same : SameTables patch other) where
   region-same : regionOf (site .removed) ≡ regionOf (its .removed)
   region-same = region-across (site .removed) (its .removed) removed-same
 
+  ends-same : its .a ∷ its .b ∷ [] ≡ site .a ∷ site .b ∷ []
+  unfolding siteOf
+  ends-same = refl
+
+  lost-same : markLost site ≡ markLost its
+  lost-same =
+      goes-across (site .a ∷ site .b ∷ []) (site .removed) (its .removed) removed-same
+      ∙ ap (λ ends. markGoes ends (its .removed)) (sym ends-same)
+
   points-same : its .points ≡ site .points
   unfolding siteOf
   points-same = sym (same .points)
@@ -138,8 +149,12 @@ module _ (patch other : Patch) (e f : ℕ) (same : SameTables patch other) where
     unfolding siteOf
     site-kin = with-fields its points-same (sym closed-same) (sym ring-same)
 
-    pub rows-of : newRows site 1 (chosen site) ≡ newRows its 1 (chosen its)
-    rows-of = rows-same site (its .removed) (its .kept) (its .links) kept-same region-same ∙ ap (λ s. newRows s 1 (chosen s)) (sym site-kin)
+    plain-same : newRows site 1 (chosen site) ≡ newRows its 1 (chosen its)
+    plain-same = rows-same site (its .removed) (its .kept) (its .links) kept-same region-same ∙ ap (λ s. newRows s 1 (chosen s)) (sym site-kin)
+
+    -- the new rows, with the same marks
+    pub rows-of : rowsMade site ≡ rowsMade its
+    rows-of = rw (new-mark-across (site .removed) (site .kept) (its .removed) (its .kept) removed-same kept-same, plain-same)
 
     -- answers 9 to 12
     pub edge-same : (chains : Bool) → edgeTests chains site e f ≡ edgeTests chains its e f
@@ -217,7 +232,7 @@ module _ (patch other : Patch) (e f : ℕ) (same : SameTables patch other) (apar
       same-test (noneBetter left) (noneBetter right) (none-to left right three (alike three))
       (none-to right left three' (like other patch e f (other-way same) apart its-ring ring three'))
 
-  -- 13 to 16, 19 and 20
+  -- 13 to 16, 19, 20 and 23
   pub removal-same : firstRefusal (removalTests left) ≡ firstRefusal (removalTests right)
   unfolding removalTests
   removal-same = go (lengthWrong left) refl
@@ -231,6 +246,7 @@ module _ (patch other : Patch) (e f : ℕ) (same : SameTables patch other) (apar
             length-same patch other e f same apart,
             flat-same patch other e f same apart,
             mixed-same patch other e f same,
+            lost-same patch other e f same,
             room-same patch other e f same apart,
             way-same three,
             none-same three,
@@ -244,7 +260,13 @@ module _ (patch other : Patch) (e f : ℕ) (same : SameTables patch other) (apar
       size = ap length (ring-same patch other e f same apart)
 
       go : (b : Bool) → eqb (m left) minRing ≡ b → firstRefusal (flip32Tests left) ≡ firstRefusal (flip32Tests right)
-      go true h = rw (← size, ← (mixed-same patch other e f same), ← (way-same (omega (arith, eqb-true (m left) minRing h))))
+      go true h =
+          rw (
+            ← size,
+            ← (mixed-same patch other e f same),
+            ← (lost-same patch other e f same),
+            ← (way-same (omega (arith, eqb-true (m left) minRing h))),
+          )
       go false h =
           refuses 13 (not (eqb (m left) minRing)) _ (ap not h)
           ∙ sym (refuses 13 (not (eqb (m right) minRing)) _ (ap not (ap (λ n. eqb n minRing) (sym size) ∙ h)))

@@ -1,10 +1,11 @@
--- Three rows (a,b,u,v), (a,b,v,w), (a,b,w,u) and no other that holds a and b: the ring is u, v, w, and no answer from 9 to 13 is given.
+-- Three rows (a,b,u,v), (a,b,v,w), (a,b,w,u), whatever their marks, and no other that holds a and b: the ring is u, v, w, and no answer
+-- from 9 to 13 is given.
 use Prim.Native.Nat.{ℕ, _<_, _≤_, min, max}
 use mathlib.Core.Bool.{Bool, true, false, cond, not}
 use mathlib.Core.List.{List, [], _∷_, _++_, map, flatMap, List·Memᴰ, List·Memᴰ·head, List·Memᴰ·tail, List·Memᴰ·not-nil, Memᴰ·append-right}
-use mathlib.Core.List.{append-nil}
+use mathlib.Core.List.{append-nil, Memᴰ·of-map}
 use mathlib.Core.Option.{some}
-use mathlib.Core.Path.{_≡_, refl, sym, ap, _∙_}
+use mathlib.Core.Path.{_≡_, refl, sym, ap, _∙_, subst}
 use native.Mathlib.Omega.{arith}
 use borrow.Author.Tests.{lt-ltb, ne-eqb}
 use lib.Dec.{T}
@@ -16,7 +17,7 @@ use Rattle.lists.proofs.Numbers.{has-i}
 use Rattle.lists.proofs.Places.{in-cases}
 use Rattle.volume.specs.declared.Point.{Point}
 use Rattle.rows.specs.declared.Row.{Row}
-use Rattle.mesh.specs.Mesh.{numbersFit, keepsMeshRule, Proper}
+use Rattle.mesh.specs.Mesh.{Face, numbersFit, keepsMeshRule, Proper}
 use Rattle.rows.specs.Labels.{noMarks}
 use Rattle.rows.specs.Rows.{holdsEdge}
 use Rattle.rows.proofs.EvenGroup.{even-refl}
@@ -35,10 +36,12 @@ use Rattle.walk.proofs.LinksClose.{closes-i}
 use Rattle.walk.proofs.TheSmallest.{smallest-is}
 use Rattle.rows.specs.Regions.{regionOf, OneRegion}
 use Rattle.rows.proofs.RegionsOfRows.{AllIn, all-none, all-cons, all-one, region-is}
-use Rattle.triangulation.specs.Triangulation.{Tri, side, cut, span, triangles, twoRows, newRows, tableAfter}
+use Rattle.triangulation.specs.Triangulation.{Tri, side, cut, span, triangles, twoRows, newRows}
 use Rattle.triangulation.specs.Best.{chosen}
 use Rattle.triangulation.proofs.WholeRing.{RingWay, ring-chosen}
 use Rattle.triangulation.proofs.AllWays.{span-over}
+use Rattle.marking.specs.Marking.{dressBy}
+use Rattle.kept_marks.proofs.DressedRows.{dress-regions}
 use Rattle.tables.specs.FlipRows.{rowsAcross, rowsRound}
 use Rattle.tables.proofs.ThreeNumbers.{ThreeApart, apart-three}
 
@@ -102,14 +105,14 @@ across site u v w e = rw e
 
 -- ---- three rows
 
-pub round-region : (a b u v w region : ℕ) → AllIn region (rowsRound a b u v w region)
+round-region : (a b u v w region : ℕ) → AllIn region (rowsRound a b u v w region)
 round-region a b u v w region = all-cons refl (all-cons refl (all-cons refl (all-none region)))
 
-module _ (points : List Point) (kept : List Row) (a b u v w region : ℕ) (order : a < b) (uv : u ≤ v) (uw : u ≤ w)
-    (rule : T (keepsMeshRule (length points) (kept ++ rowsRound a b u v w region)))
+module _ (points : List Point) (kept : List Row) (marked : Face → Bool) (a b u v w region : ℕ) (order : a < b) (uv : u ≤ v) (uw : u ≤ w)
+    (rule : T (keepsMeshRule (length points) (kept ++ map (dressBy marked) (rowsRound a b u v w region))))
     (none : T (every (λ row. not (holdsEdge a b row)) kept)) where
   abbrev new : List Row
-  new = rowsRound a b u v w region
+  new = map (dressBy marked) (rowsRound a b u v w region)
 
   abbrev patch : Patch
   patch = record { points = points; rows = kept ++ new }
@@ -123,14 +126,15 @@ module _ (points : List Point) (kept : List Row) (a b u v w region : ℕ) (order
       (every-at (numbersFit (length points)) (kept ++ new) (keeps-fits (length points) (kept ++ new) rule) (Memᴰ·append-right kept k))
 
   points-apart : ThreeApart u v w
+  unfolding dressBy
   points-apart =
       let one = new-proper (List·Memᴰ·head refl) in
       let two = new-proper (List·Memᴰ·tail (List·Memᴰ·head refl)) in
       let three = new-proper (List·Memᴰ·tail (List·Memᴰ·tail (List·Memᴰ·head refl))) in
       record { xy = one .r-s; xz = λ e. three .r-s (sym e); yz = two .r-s }
 
-  new-hold : (row : Row) → List·Memᴰ row new → T (holdsEdge a b row)
-  new-hold row k =
+  round-hold : (row : Row) → List·Memᴰ row (rowsRound a b u v w region) → T (holdsEdge a b row)
+  round-hold row k =
       in-cases k (both row)
       λ k. in-cases k (both row) λ k. in-cases k (both row) λ k. absurd (List·Memᴰ·not-nil k)
     where
@@ -138,6 +142,12 @@ module _ (points : List Point) (kept : List Row) (a b u v w region : ℕ) (order
       both row e =
           rw e (and-i (has (a ∷ b ∷ _ ∷ _ ∷ []) a) (has (a ∷ b ∷ _ ∷ _ ∷ []) b)
           (has-i _ (List·Memᴰ·head refl)) (has-i _ (List·Memᴰ·tail (List·Memᴰ·head refl))))
+
+  new-hold : (row : Row) → List·Memᴰ row new → T (holdsEdge a b row)
+  unfolding dressBy
+  new-hold row k =
+      let (t, i, e) = Memᴰ·of-map (dressBy marked) (rowsRound a b u v w region) k in
+      subst (λ row. T (holdsEdge a b row)) e (round-hold t i)
 
   min-is : min a b ≡ a
   min-is = omega arith
@@ -170,7 +180,7 @@ module _ (points : List Point) (kept : List Row) (a b u v w region : ℕ) (order
       gone row k = twice-not (holdsEdge a b row) (new-hold row k)
 
   three-links : site .links ≡ links u v w points-apart
-  unfolding siteOf
+  unfolding siteOf dressBy
   three-links =
       ap (map (link (min a b) (max a b))) three-removed
       ∙ rw (
@@ -197,7 +207,7 @@ module _ (points : List Point) (kept : List Row) (a b u v w region : ℕ) (order
   -- ---- no answer from 9 to 12
 
   ends-right : numbersWrong (length points) (a ∷ b ∷ []) ≡ false
-  unfolding numbersWrong every different any
+  unfolding numbersWrong every different any dressBy
   ends-right =
       let one = new-proper (List·Memᴰ·head refl) in
       rw (lt-ltb a (length points) (one .below-p), lt-ltb b (length points) (one .below-q), ne-eqb a b (one .p-q))
@@ -224,12 +234,13 @@ module _ (points : List Point) (kept : List Row) (a b u v w region : ℕ) (order
   -- ---- their region
 
   new-one : OneRegion new
-  new-one = all-one region new (round-region a b u v w region)
+  new-one = all-one region new (dress-regions marked region (rowsRound a b u v w region) (round-region a b u v w region))
 
   pub three-one : OneRegion (site .removed)
   three-one = rw three-removed new-one
 
   three-region : regionOf (site .removed) ≡ region
+  unfolding dressBy
   three-region = ap regionOf three-removed ∙ region-is new new-one (List·Memᴰ·head refl)
 
   -- ---- the only way
@@ -242,9 +253,8 @@ module _ (points : List Point) (kept : List Row) (a b u v w region : ℕ) (order
   unfolding siteOf
   site-b = max-is
 
-  pub three-table : tableAfter site (cut side side) ≡ kept ++ rowsAcross a b u v w region
-  unfolding tableAfter
-  three-table = rw (across site u v w ring-three, three-kept, three-region, site-a, site-b)
+  pub three-new : newRows site 1 (cut side side) ≡ rowsAcross a b u v w region
+  three-new = rw (across site u v w ring-three, three-region, site-a, site-b)
 
 -- a ring of three is triangulated in one way
 pub one-tree : (t : Tri) → span t ≡ 2 → t ≡ cut side side

@@ -9,7 +9,7 @@ use native.Mathlib.Decide.{decLt}
 use native.Mathlib.Omega.{arith}
 use borrow.Author.Tests.{eq-eqb, ne-eqb}
 use lib.Dec.{T, eqb, ltb, T-not}
-use lib.ListN.{length}
+use lib.ListN.{length, getD}
 use Rattle.lists.specs.Lists.{every, any, first, firstOr, has, different}
 use Rattle.lists.proofs.Tests.{and-r, either}
 use Rattle.lists.proofs.Lists.{every-at, any-i, first-found}
@@ -23,7 +23,7 @@ use Rattle.rows.specs.Tetrahedra.{evenly, rearranged, arrangedFrom}
 use Rattle.mesh.proofs.TurnedFaces.{stay, no-p, face-uses}
 use Rattle.mesh.proofs.FacesCounted.{hits, hits-cons}
 use Rattle.mesh.proofs.MeshRuleStated.{fit-proper}
-use Rattle.rows.proofs.EvenMoves.{even-i, even-holds, even-region}
+use Rattle.rows.proofs.EvenMoves.{even-i, even-holds}
 use Rattle.mesh.proofs.EvenFaces.{even-uses, even-proper}
 use Rattle.rows.proofs.EvenGroup.{even-trans, arranged-from}
 use Rattle.walk.specs.Walk.{smallest}
@@ -263,13 +263,12 @@ module _ (count : ℕ) (face : List ℕ) (rows : List Row) (all : AllOver count 
           )
 
   -- b's row is (u,v,w,b)
-  pub b-last : T (rearranged (record { p = upA .q; q = upA .r; r = upA .s; s = bOf face rows; region = the-two .rowB .region })
-      (the-two .rowB))
+  pub b-last : (o : Row) × T (rearranged o (the-two .rowB)) × (numbers o ≡ upA .q ∷ upA .r ∷ upA .s ∷ bOf face rows ∷ [])
   unfolding evenly
   b-last =
       let (over-a, over-b, ways) = both-over in
-      let turned : Row = record { p = upB .q; q = upB .s; r = upB .r; s = upB .p; region = upB .region } in
-      let even = even-trans turned upB (the-two .rowB) (even-i turned upB (at-in (evenly upB) 5 noRow (omega arith))) (over-b .even) in
+      let o = getD (evenly upB) 5 noRow in
+      let even = even-trans o upB (the-two .rowB) (even-i o upB (at-in (evenly upB) 5 noRow (omega arith))) (over-b .even) in
       let first = over-a .at-u ∙ sym (over-b .at-u) in
       let last = sym (over-b .at-apex ∙ the-two .apex-b) in
-      rw (first, sym (ways .1), sym (ways .0), last, sym (even-region upB (the-two .rowB) (over-b .even))) even
+      (o, even, rw (first, sym (ways .1), sym (ways .0), last))

@@ -5,12 +5,12 @@ use mathlib.Core.List.{List, [], _∷_, List·Memᴰ, List·Memᴰ·head, List·
 use mathlib.Core.Path.{_≡_, refl, sym, ap, _∙_, subst}
 use native.Mathlib.Omega.{arith}
 use lib.Dec.{T}
-use lib.ListN.{length}
+use lib.ListN.{length, getD}
 use Rattle.lists.specs.Lists.{has, different}
 use Rattle.lists.proofs.Lists.{every-at, every-i, any-i, any-e, those-i, those-e}
 use Rattle.lists.proofs.Numbers.{has-i, has-e, no-fewer, different-head}
 use Rattle.rows.specs.declared.Row.{Row}
-use Rattle.rows.specs.Rows.{holds, holdsFace}
+use Rattle.rows.specs.Rows.{numbers, holds, holdsFace}
 use Rattle.mesh.specs.Mesh.{Proper}
 use Rattle.rows.specs.Tetrahedra.{rearranged}
 use Rattle.rows.proofs.EvenMoves.{even-holds}
@@ -20,18 +20,14 @@ use Rattle.links.specs.Links.{Link, link}
 use Rattle.walk.specs.Walk.{smallest}
 use Rattle.links.proofs.LinksUnderRule.{link-is}
 use Rattle.walk.proofs.TheSmallest.{smallest-is, smallest-le}
-use Rattle.calls.specs.Flipping.{apexOver, Pair, pairOf, threeRows}
+use Rattle.marking.specs.Marking.{dressed}
+use Rattle.calls.specs.Flipping.{apexOver, Pair, pairOf, threeRows, threeMade}
 use Rattle.tables.specs.RoundAnEdge.{reads}
-use Rattle.tables.specs.FlipRows.{Apexes, KeepsRule, ReadFrom, new23}
+use Rattle.tables.specs.FlipRows.{Apexes, KeepsRule, ReadFrom, new23, made23}
 use Rattle.tables.proofs.RowsAndLinks.{read-e, read-i, row-proper}
 use Rattle.tables.proofs.ThreeNumbers.{apart-three}
 use Rattle.tables.proofs.FacingRows.{Facing, both-in, row-of-a, two-facing}
 use Rattle.tables.proofs.ApexesByWords.{apex-is, apex-b, TwoApexes, face-different, two-apexes}
-
--- a row by its four numbers
-row-is : (t : Row) (p q r s : ℕ) → t .p ≡ p → t .q ≡ q → t .r ≡ r → t .s ≡ s
-    → t ≡ record { p = p; q = q; r = r; s = s; region = t .region }
-row-is t p q r s i j k l = rw (← i, ← j, ← k, ← l)
 
 module _ (patch : Patch) (x y z a b : ℕ) (rule : KeepsRule patch (patch .rows)) (apexes : Apexes (patch .rows) x y z a b)
     (smaller : a < b) where
@@ -81,26 +77,31 @@ module _ (patch : Patch) (x y z a b : ℕ) (rule : KeepsRule patch (patch .rows)
 
   module _ (u v w : ℕ) (read : ReadFrom (patch .rows) x y z a u v w) where
     -- the row that reads (a,u,v,w)
-    abbrev arranged : ℕ → Row
-    arranged region = record { p = a; q = u; r = v; s = w; region = region }
-
-    found : (row : Row) × List·Memᴰ row (patch .rows) × (region : ℕ) × T (rearranged (arranged region) row)
+    found : (row : Row) × List·Memᴰ row (patch .rows) × (t : Row) × T (rearranged t row) × (numbers t ≡ a ∷ u ∷ v ∷ w ∷ [])
     found =
         let (row, k, h) = any-e (reads a u v w) (patch .rows) (read .row) in
         let (t, even, p, q, r, s) = read-e a u v w row h in
-        (row, k, t .region, subst (λ (t : Row). T (rearranged t row)) (row-is t a u v w p q r s) even)
+        (row, k, t, even, rw (p, q, r, s))
 
-    module _ (row : Row) (in-rows : List·Memᴰ row (patch .rows)) (region : ℕ) (even : T (rearranged (arranged region) row)) where
+    module _ (row : Row) (in-rows : List·Memᴰ row (patch .rows)) (arranged : Row) (even : T (rearranged arranged row))
+        (its-numbers : numbers arranged ≡ a ∷ u ∷ v ∷ w ∷ []) where
+      at : (i : ℕ) → getD (numbers arranged) i 0 ≡ getD (a ∷ u ∷ v ∷ w ∷ []) i 0
+      at i = ap (λ ns. getD ns i 0) its-numbers
+
       proper : Proper points row
       proper = row-proper a u points (patch .rows) rule in-rows
 
       held : (n : ℕ) → List·Memᴰ n (a ∷ u ∷ v ∷ w ∷ []) → T (holds row n)
-      held n k = subst T (even-holds (arranged region) row even n) (has-i (a ∷ u ∷ v ∷ w ∷ []) k)
+      held n k = subst T (even-holds arranged row even n) (has-i (numbers arranged) (subst (List·Memᴰ n) (sym its-numbers) k))
 
       holds-face : T (holdsFace face row)
       holds-face =
-          let arranged-proper = even-proper points (arranged region) row even proper in
-          let three = apart-three u v w (record { xy = arranged-proper .q-r; xz = arranged-proper .q-s; yz = arranged-proper .r-s }) in
+          let its = even-proper points arranged row even proper in
+          let three = apart-three u v w (record {
+            xy = λ e. its .q-r (at 1 ∙ e ∙ sym (at 2));
+            xz = λ e. its .q-s (at 1 ∙ e ∙ sym (at 3));
+            yz = λ e. its .r-s (at 2 ∙ e ∙ sym (at 3));
+          }) in
           every-i (holds row) face (λ n k.
           held n (List·Memᴰ·tail (no-fewer (u ∷ v ∷ w ∷ []) face three
           (λ n i. has-e face n (every-at (has face) (u ∷ v ∷ w ∷ []) (read .of-face) i)) (omega arith) k)))
@@ -128,9 +129,10 @@ module _ (patch : Patch) (x y z a b : ℕ) (rule : KeepsRule patch (patch .rows)
       ends-are =
           let even-a = subst (λ (row : Row). T (rearranged (faces .t) row)) (sym is-a) (faces .a-row .even) in
           sym (link-is row (faces .t) proper even-a)
-          ∙ ap (λ n. link n (faces .t .q) row) (faces .at-a ∙ a-is)
-          ∙ ap (λ n. link a n row) first-is
-          ∙ link-is row (arranged region) proper even
+          ∙ ap (λ n. link n (faces .t .q) row) (faces .at-a ∙ a-is ∙ sym (at 0))
+          ∙ ap (λ n. link (arranged .p) n row) (first-is ∙ sym (at 1))
+          ∙ link-is row arranged proper even
+          ∙ rw (at 2, at 3)
 
       new-by : threeRows pair face ≡ new23 (patch .rows) face a b u v w
       unfolding threeRows pairOf
@@ -139,6 +141,10 @@ module _ (patch : Patch) (x y z a b : ℕ) (rule : KeepsRule patch (patch .rows)
           let s = ap (λ (l : Link). l .1) ends-are in
           rw (faces .t-is, a-is, b-is, first-is, r, s)
 
-    -- the new rows, by the flip's search and by words
-    pub new-is : threeRows pair face ≡ new23 (patch .rows) face a b u v w
-    new-is = let (row, k, region, even) = found in new-by row k region even
+    plain-is : threeRows pair face ≡ new23 (patch .rows) face a b u v w
+    plain-is = let (row, k, t, even, its) = found in new-by row k t even its
+
+    -- the new rows with their marks, by the flip's search and by words
+    pub new-is : threeMade pair face ≡ made23 (patch .rows) face a b u v w
+    unfolding pairOf
+    new-is = ap (λ new. dressed (pair .removed) (pair .kept) new) plain-is

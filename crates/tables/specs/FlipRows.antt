@@ -11,6 +11,7 @@ use Rattle.rows.specs.Labels.{noMarks}
 use Rattle.rows.specs.Rows.{holds, holdsEdge, holdsFace}
 use Rattle.rows.specs.Regions.{regionOf}
 use Rattle.mesh.specs.Mesh.{keepsMeshRule}
+use Rattle.marking.specs.Marking.{dressed}
 use Rattle.layout.specs.Layout.{Patch}
 use Rattle.tables.specs.RoundAnEdge.{linked}
 
@@ -34,9 +35,13 @@ rowsAcross a b u v w region =
 abbrev pub new32 : List Row → ℕ → ℕ → ℕ → ℕ → ℕ → List Row
 new32 rows a b u v w = rowsAcross a b u v w (regionOf (those (holdsEdge a b) rows))
 
+-- and with their marks, by the rows that go and those that stay
+abbrev pub made32 : List Row → ℕ → ℕ → ℕ → ℕ → ℕ → List Row
+made32 rows a b u v w = dressed (those (holdsEdge a b) rows) (off rows a b) (new32 rows a b u v w)
+
 -- the table after the flip: the rows that do not hold the edge, then the new ones
 abbrev pub after32 : List Row → ℕ → ℕ → ℕ → ℕ → ℕ → List Row
-after32 rows a b u v w = off rows a b ++ new32 rows a b u v w
+after32 rows a b u v w = off rows a b ++ made32 rows a b u v w
 
 -- ---- the 2-3 flip
 
@@ -72,6 +77,11 @@ rowsRound a b u v w region =
 abbrev pub new23 : List Row → List ℕ → ℕ → ℕ → ℕ → ℕ → ℕ → List Row
 new23 rows face a b u v w = rowsRound a b u v w (regionOf (those (holdsFace face) rows))
 
+-- and with their marks, by the rows that go and those that stay
+abbrev pub made23 : List Row → List ℕ → ℕ → ℕ → ℕ → ℕ → ℕ → List Row
+made23 rows face a b u v w =
+    dressed (those (holdsFace face) rows) (those (λ row. not (holdsFace face row)) rows) (new23 rows face a b u v w)
+
 -- the table after the flip: the rows that do not hold the face, then the new ones
 abbrev pub after23 : List Row → List ℕ → ℕ → ℕ → ℕ → ℕ → ℕ → List Row
-after23 rows face a b u v w = those (λ row. not (holdsFace face row)) rows ++ new23 rows face a b u v w
+after23 rows face a b u v w = those (λ row. not (holdsFace face row)) rows ++ made23 rows face a b u v w
