@@ -17,7 +17,7 @@ use Rattle.block.specs.Holding.{RightBlock}
 use Rattle.ring.specs.Ring.{minRing}
 use Rattle.tables.specs.RoundAnEdge.{Round, AllClose, TwoCircles}
 use Rattle.tables.specs.FlipRows.{KeepsRule, off, after32, facing, OneApex, Apexes, ReadFrom, after23}
-use Rattle.demands.specs.Premises.{TwoPoints, Held, OneMaterial}
+use Rattle.demands.specs.Premises.{TwoPoints, Held, OneMaterial, NoneMarked, MarksStay}
 use Rattle.demands.specs.Kernels.{Kernel, opens, flips}
 
 -- ---- how many numbers
@@ -41,8 +41,8 @@ pub record RingOfThree (block out : List ℕ) (e f u v w : ℕ) : Type 0 where
   pub right-length : length out ≡ blockBytes
   pub round : Round (fieldsOf block .rows) (min e f) (max e f) true (u ∷ v ∷ w ∷ [])
 
--- 9 and 10; 11, 12 and 13, where some row holds the edge; in a ring of three, 20 where its rows have more than one region, and in one region
--- 15 where the table afterwards would break the mesh rule, which is where one of the other rows has the triangle for a face; and otherwise 0.
+-- 9 and 10; 11, 12 and 13, where some row holds the edge; in a ring of three, 20 where its rows have more than one region, in one region 23
+-- where a marked face would go, and with none such 15 where the table afterwards would break the mesh rule, which is where one of the other rows has the triangle for a face; and otherwise 0.
 pub record Tells32 (k : Kernel) : Type 0 where
   pub nine : (block out : List ℕ) (e f : ℕ) → RightBlock block → length out ≡ blockBytes
       → (flips k block out (e ∷ f ∷ []) ≡ 9) ↔ (TwoPoints block e f → ⊥)
@@ -57,12 +57,17 @@ pub record Tells32 (k : Kernel) : Type 0 where
       → (flips k block out (e ∷ f ∷ []) ≡ 13) ↔ NotThree (fieldsOf block .rows) (min e f) (max e f)
   pub twenty : (block out : List ℕ) (e f u v w : ℕ) → RingOfThree block out e f u v w
       → (flips k block out (e ∷ f ∷ []) ≡ 20) ↔ (OneMaterial (fieldsOf block) e f → ⊥)
+  pub twenty-three : (block out : List ℕ) (e f u v w : ℕ) → RingOfThree block out e f u v w → OneMaterial (fieldsOf block) e f
+      → (flips k block out (e ∷ f ∷ []) ≡ 23) ↔ (MarksStay (fieldsOf block) e f → ⊥)
   pub fifteen : (block out : List ℕ) (e f u v w : ℕ) → RingOfThree block out e f u v w → OneMaterial (fieldsOf block) e f
+      → MarksStay (fieldsOf block) e f
       → let patch = fieldsOf block in
       (flips k block out (e ∷ f ∷ []) ≡ 15) ↔ (KeepsRule patch (after32 (patch .rows) (min e f) (max e f) u v w) → ⊥)
   pub fifteen-by-triangle : (block out : List ℕ) (e f u v w : ℕ) → RingOfThree block out e f u v w → OneMaterial (fieldsOf block) e f
+      → MarksStay (fieldsOf block) e f
       → (flips k block out (e ∷ f ∷ []) ≡ 15) ↔ T (any (usesEitherWay (u, v, w)) (off (fieldsOf block .rows) (min e f) (max e f)))
   pub done : (block out : List ℕ) (e f u v w : ℕ) → RingOfThree block out e f u v w → OneMaterial (fieldsOf block) e f
+      → MarksStay (fieldsOf block) e f
       → let patch = fieldsOf block in
       (flips k block out (e ∷ f ∷ []) ≡ 0) ↔ KeepsRule patch (after32 (patch .rows) (min e f) (max e f) u v w)
 
@@ -85,16 +90,21 @@ pub record Faced (block out : List ℕ) (x y z a b : ℕ) : Type 0 where
 abbrev pub OneMaterialAt : Patch → ℕ → ℕ → ℕ → Type 0
 OneMaterialAt patch x y z = OneRegion (those (holdsFace (x ∷ y ∷ z ∷ [])) (patch .rows))
 
--- Such a face in one region, with room for one row more; a is the smaller apex and its row reads (a,u,v,w).
+-- the face is not marked, by either row
+abbrev pub Unmarked : Patch → ℕ → ℕ → ℕ → Type 0
+Unmarked patch x y z = NoneMarked (patch .rows) (x ∷ y ∷ z ∷ [])
+
+-- Such a face in one region and unmarked, with room for one row more; a is the smaller apex and its row reads (a,u,v,w).
 pub record Roomy (block out : List ℕ) (x y z a b u v w : ℕ) : Type 0 where
   pub faced : Faced block out x y z a b
   pub smaller : a < b
   pub read : ReadFrom (fieldsOf block .rows) x y z a u v w
   pub one-region : OneMaterialAt (fieldsOf block) x y z
+  pub unmarked : Unmarked (fieldsOf block) x y z
   pub room : length (fieldsOf block .rows) + 1 ≤ maxRows
 
--- 9; 10, 11 and 18 of three different points; of two rows with different apexes, 20 where they have different regions, and in one region 14
--- where one row more is too many, 15 where the table afterwards would break the mesh rule, and otherwise 0.
+-- 9; 10, 11 and 18 of three different points; of two rows with different apexes, 20 where they have different regions, in one region 23
+-- where the face is marked, and if it is not 14 where one row more is too many, 15 where the table afterwards would break the mesh rule, and otherwise 0.
 pub record Tells23 (k : Kernel) : Type 0 where
   pub nine : (block out : List ℕ) (x y z : ℕ) → RightBlock block → length out ≡ blockBytes
       → (flips k block out (x ∷ y ∷ z ∷ []) ≡ 9) ↔ (ThreePoints block x y z → ⊥)
@@ -106,7 +116,10 @@ pub record Tells23 (k : Kernel) : Type 0 where
       → (flips k block out (x ∷ y ∷ z ∷ []) ≡ 18) ↔ ((a : ℕ) × OneApex (fieldsOf block .rows) x y z a)
   pub twenty : (block out : List ℕ) (x y z a b : ℕ) → Faced block out x y z a b
       → (flips k block out (x ∷ y ∷ z ∷ []) ≡ 20) ↔ (OneMaterialAt (fieldsOf block) x y z → ⊥)
+  pub twenty-three : (block out : List ℕ) (x y z a b : ℕ) → Faced block out x y z a b → OneMaterialAt (fieldsOf block) x y z
+      → (flips k block out (x ∷ y ∷ z ∷ []) ≡ 23) ↔ (Unmarked (fieldsOf block) x y z → ⊥)
   pub fourteen : (block out : List ℕ) (x y z a b : ℕ) → Faced block out x y z a b → OneMaterialAt (fieldsOf block) x y z
+      → Unmarked (fieldsOf block) x y z
       → (flips k block out (x ∷ y ∷ z ∷ []) ≡ 14) ↔ (maxRows < length (fieldsOf block .rows) + 1)
   pub fifteen : (block out : List ℕ) (x y z a b u v w : ℕ) → Roomy block out x y z a b u v w
       → let patch = fieldsOf block in

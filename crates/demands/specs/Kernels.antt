@@ -2,15 +2,17 @@
 -- What is demanded is demanded of any kernel, whatever it does inside.
 -- Ours is the one whose calls are proved.
 use Prim.Native.Nat.{ℕ}
-use mathlib.Core.List.{List}
+use mathlib.Core.List.{List, map}
 use lib.Ieee.{Float}
+use Rattle.lists.specs.Lists.{numbersFrom}
+use Rattle.volume.specs.Volume.{pointsIn}
+use Rattle.rows.specs.Rows.{storedRow}
 use Rattle.answers.specs.declared.Answer.{Answer}
 use Rattle.layout.specs.declared.Fields.{Fields}
 use Rattle.block.specs.declared.Opened.{Opened}
 use Rattle.layout.specs.Layout.{Patch}
 use Rattle.block.specs.Opening.{openGives, sealAnswer, sealBytes}
 use Rattle.answers.specs.Answers.{answerOf, numberOf}
-use Rattle.tally.specs.Tally.{patchIn}
 use Rattle.display.specs.Display.{shownAnswer, shownElements}
 use Rattle.calls.specs.declared.Summarised.{Summarised}
 use Rattle.calls.specs.declared.Removed.{Removed}
@@ -66,6 +68,9 @@ flips k block out numbers = numberOf (k .flip block out numbers .0)
 
 -- ---- what opening returns
 
--- the fields, read as a patch: as many points of the coordinates and rows of the table as they count
+-- the fields, read as a patch: as many points of the coordinates as they count, and rows of the table, which the version reads
 abbrev pub asPatch : Fields → Patch
-asPatch fields = patchIn (fields .coordinates) (fields .points) (fields .table) (fields .rows)
+asPatch fields = record {
+  points = pointsIn (fields .coordinates) (fields .points);
+  rows = map (storedRow (fields .version) (fields .table)) (numbersFrom 0 (fields .rows));
+}

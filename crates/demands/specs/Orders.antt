@@ -15,21 +15,22 @@ use Rattle.rows.specs.Tetrahedra.{SameTetrahedra}
 use Rattle.layout.specs.Layout.{blockBytes, fieldsOf}
 use Rattle.block.specs.Holding.{RightBlock}
 use Rattle.tables.specs.FlipRows.{Apexes}
-use Rattle.demands.specs.Premises.{Ringed, FlatChain, OneMaterial}
+use Rattle.demands.specs.Premises.{Ringed, FlatChain, OneMaterial, MarksStay}
 use Rattle.demands.specs.Kernels.{Kernel, removes, flips}
 
 -- ---- room
 
 -- A ring of six makes two rows more than go, so a block with more than 58 rows gets 14; a ring of four makes none more, and always has room.
--- A flat chain makes one row more than a ring of its length. Of one region, where 20 is not given before; for every length it is
+-- A flat chain makes one row more than a ring of its length. Of one region and with no marked face that goes, where neither 20 nor 23 is given before; for every length it is
 -- `Tells .fourteen`, of which these are cases.
 pub record Room (k : Kernel) : Type 0 where
-  pub ring-of-six : (block out : List ℕ) (e f : ℕ) (vs : List ℕ) → Ringed block out e f true vs → OneMaterial (fieldsOf block) e f → length vs ≡ 6
+  pub ring-of-six : (block out : List ℕ) (e f : ℕ) (vs : List ℕ) → Ringed block out e f true vs → OneMaterial (fieldsOf block) e f
+      → MarksStay (fieldsOf block) e f → length vs ≡ 6
       → (removes k block out e f ≡ 14) ↔ (58 < length (fieldsOf block .rows))
   pub ring-of-four : (block out : List ℕ) (e f : ℕ) (vs : List ℕ) → Ringed block out e f true vs → length vs ≡ 4
       → removes k block out e f ≡ 14 → ⊥
   pub chain-of-four : (block out : List ℕ) (e f : ℕ) (vs : List ℕ) → Ringed block out e f false vs → FlatChain block e f false vs
-      → OneMaterial (fieldsOf block) e f → length vs ≡ 4 → (removes k block out e f ≡ 14) ↔ (59 < length (fieldsOf block .rows))
+      → OneMaterial (fieldsOf block) e f → MarksStay (fieldsOf block) e f → length vs ≡ 4 → (removes k block out e f ≡ 14) ↔ (59 < length (fieldsOf block .rows))
   pub chain-of-three : (block out : List ℕ) (e f : ℕ) (vs : List ℕ) → Ringed block out e f false vs → FlatChain block e f false vs
       → length vs ≡ 3 → removes k block out e f ≡ 14 → ⊥
 
@@ -45,7 +46,7 @@ pub record EitherOrder (k : Kernel) : Type 0 where
 
 -- ---- any row order
 
--- Two valid blocks with the same points and the same tetrahedra, in another order of rows and evenly rearranged.
+-- Two valid blocks with the same points and the same tetrahedra with their marks, in another order of rows and evenly rearranged.
 pub record SameMesh (block other : List ℕ) : Type 0 where
   pub right : RightBlock block
   pub other-right : RightBlock other
@@ -84,7 +85,7 @@ pub record Flipped (k : Kernel) (block out other : List ℕ) (x y z a b : ℕ) :
   pub apexes : Apexes (fieldsOf block .rows) x y z a b
   pub none-held : T (not (any (holdsEdge a b) (fieldsOf block .rows)))
 
--- The 3-2 flip of a, b is done on what the first flip left, and the table has the tetrahedra that it had before both.
+-- The 3-2 flip of a, b is done on what the first flip left, and the table has the tetrahedra that it had before both, with their marks.
 abbrev pub BroughtBack : Kernel → Type 0
 BroughtBack k =
     (block out other : List ℕ) (x y z a b : ℕ) → Flipped k block out other x y z a b

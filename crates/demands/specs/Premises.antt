@@ -1,21 +1,25 @@
 -- Requirement §6 and §11: an edge of a block, and the third demand's premises.
 use Prim.Native.Nat.{ℕ, _+_, _-_, _≤_, _<_, min, max}
 use mathlib.Core.Bool.{Bool, false, cond, not}
-use mathlib.Core.List.{List, map}
+use mathlib.Core.List.{List, [], _∷_, map, List·Memᴰ}
 use mathlib.Core.Path.{_≡_}
 use lib.Dec.{T}
 use lib.IntN.{pos}
 use lib.ListN.{length, getD}
 use Rattle.lists.specs.Lists.{any, those}
 use Rattle.volume.specs.Volume.{D}
+use Rattle.rows.specs.declared.Row.{Row}
 use Rattle.rows.specs.Rows.{holdsEdge}
 use Rattle.rows.specs.Regions.{OneRegion}
 use Rattle.rows.specs.RowMeasure.{place}
+use Rattle.mesh.specs.Mesh.{Face}
+use Rattle.marking.specs.Marking.{marks}
 use Rattle.layout.specs.Layout.{Patch, blockBytes, maxRows, fieldsOf}
 use Rattle.block.specs.Holding.{RightBlock}
 use Rattle.ring.specs.Ring.{Site, minRing, maxRing}
 use Rattle.links.specs.Links.{link}
 use Rattle.triangulation.specs.Triangulation.{Triangle}
+use Rattle.kept_marks.specs.Replacing.{hasAll}
 use Rattle.tables.specs.RoundAnEdge.{Round}
 use Rattle.demands.specs.TriangleSets.{Way}
 
@@ -73,14 +77,24 @@ FlatChain block e f closed vs =
 abbrev pub OneMaterial : Patch → ℕ → ℕ → Type 0
 OneMaterial patch e f = OneRegion (those (holdsEdge (min e f) (max e f)) (patch .rows))
 
+-- no marked face goes: none of these rows marks a face that has all the numbers
+abbrev pub NoneMarked : List Row → List ℕ → Type 0
+NoneMarked rows ns = (row : Row) → List·Memᴰ row rows → (f : Face) → T (marks f row) → T (hasAll ns f) → ⊥
+
+-- with an edge those faces go that have both ends
+abbrev pub MarksStay : Patch → ℕ → ℕ → Type 0
+MarksStay patch e f = NoneMarked (patch .rows) (min e f ∷ max e f ∷ [])
+
 -- there is room: the rows and m - 4 more, or for a chain m - 3 more, are at most 60
 abbrev pub HasRoom : List ℕ → Bool → List ℕ → Type 0
 HasRoom block closed vs = length (fieldsOf block .rows) + length vs ≤ maxRows + cond closed 4 3
 
--- All premises of the third demand: a ring or a flat chain, of one region, room, and some way of cutting it that keeps the mesh rule.
+-- All premises of the third demand: a ring or a flat chain, of one region, no marked face that goes, room, and some way of cutting it that
+-- keeps the mesh rule.
 pub record Premises (block out : List ℕ) (e f : ℕ) (closed : Bool) (vs : List ℕ) : Type 0 where
   pub ringed : Ringed block out e f closed vs
   pub flat : FlatChain block e f closed vs
   pub one-region : OneMaterial (fieldsOf block) e f
+  pub no-marked-face-goes : MarksStay (fieldsOf block) e f
   pub room : HasRoom block closed vs
   pub some-way : (ts : List Triangle) × Way (edgeAt (fieldsOf block) e f closed vs) ts

@@ -9,6 +9,7 @@ use Rattle.quality.specs.Quality.{worse, worst, zeroQuality}
 use Rattle.rows.specs.declared.Row.{Row}
 use Rattle.rows.specs.RowMeasure.{rowQuality}
 use Rattle.mesh.specs.Mesh.{keepsMeshRule}
+use Rattle.marking.specs.Marking.{dressed}
 use Rattle.ring.specs.Ring.{Site, m}
 use Rattle.triangulation.specs.Triangulation.{Triangle, twoRows}
 use Rattle.polygon.specs.Polygon.{cuts}
@@ -21,6 +22,10 @@ rowsOf site ts = flatMap (twoRows site) ts
 -- the whole table with them: the kept rows in order, then these
 abbrev pub tableBy : Site → List Triangle → List Row
 tableBy site ts = site .kept ++ rowsOf site ts
+
+-- and as it is written: these rows with the marks of the faces that stay
+abbrev pub tableMade : Site → List Triangle → List Row
+tableMade site ts = site .kept ++ dressed (site .removed) (site .kept) (rowsOf site ts)
 
 -- a way of triangulating the ring, or the chain, that keeps the mesh rule: the triangles cut v1..vm, and the whole table keeps the rule
 abbrev pub Way : Site → List Triangle → Type 0
