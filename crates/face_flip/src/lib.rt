@@ -12,8 +12,8 @@ use face::face_wrong;
 use face::least;
 use face::put_three;
 use face::share;
+use layout::BLOCK_BYTES;
 use layout::MAX_ROWS;
-use layout::TABLE_BYTES;
 use rows::Regions;
 
 // The flip of a face with right numbers: writes the block afterwards, or refuses and leaves every output byte.
@@ -37,16 +37,22 @@ fn flip_right(block: &[u8], x: u8, y: u8, z: u8, out: &mut [u8]) -> Answer
     let Regions::One(region) = regions else {
         return Answer::Refused(answers::TWO_REGIONS);
     };
-    let mut rows = [0u8; TABLE_BYTES];
-    let kept = output::keep_others(block, n, x, y, z, &mut rows);
+    if dressing::mark_goes(block, n, x, y, z) {
+        return Answer::Refused(answers::MARK_GOES);
+    }
+    let mut after = [0u8; BLOCK_BYTES];
+    output::begin(block, &mut after);
+    let kept = output::keep_others(block, n, x, y, z, &mut after);
     if MAX_ROWS < kept + 3 {
         return Answer::Refused(answers::NO_ROOM);
     }
-    put_three(&mut rows, kept, found, region, least(x, y, z));
-    if !keys::keeps_mesh_rule(&rows, kept + 3, block[1] as usize) {
+    put_three(&mut after, kept, found, region, least(x, y, z));
+    dressing::dress(block, n, x, y, z, &mut after, kept, kept + 3);
+    if !keys::keeps_mesh_rule(&after, kept + 3, block[1] as usize) {
         return Answer::Refused(answers::BLOCKED);
     }
-    output::write(block, &rows, kept + 3, out);
+    output::finish(&mut after, kept + 3);
+    layout::copy(&after, out);
     Answer::Done
 }
 
