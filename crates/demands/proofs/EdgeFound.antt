@@ -68,6 +68,14 @@ module _ (block : List ℕ) (e f : ℕ) (right : RightBlock block) (closed : Boo
         ring-is a b points (patch .rows) (right .body .rule) closed vs round some-pair,
       )
 
+  -- no marked face of it goes, by the test and by words
+
+  pub site-tested : MarksStay patch e f → markLost its ≡ false
+  site-tested stay = ap (λ (site : Site). markLost site) (sym site-is) ∙ marks-stay-tested patch e f stay
+
+  pub site-stated : markLost its ≡ false → MarksStay patch e f
+  site-stated q = marks-stay-stated patch e f (ap (λ (site : Site). markLost site) site-is ∙ q)
+
   all-on : whole its ≡ true
   unfolding whole
   all-on = yes-is (every (has vs) (starts (its .links)))
@@ -136,13 +144,11 @@ module _ (block out : List ℕ) (e f : ℕ) (closed : Bool) (vs : List ℕ) (giv
   unfolding removalTests before past testOf firstRefusal every
   passes-13 = rw (left ∙ goes-past 13 tests tt refl length-right) (on-list (past 13 tests))
 
-  -- no marked face goes, by the test and by words
-
   pub ringed-marks : MarksStay (fieldsOf block) e f → markLost ringed ≡ false
-  ringed-marks stay = ap (λ (site : Site). markLost site) (sym sited) ∙ marks-stay-tested (fieldsOf block) e f stay
+  ringed-marks = site-tested block e f (given .right) closed vs (given .round) some-pair
 
   pub marks-ringed : markLost ringed ≡ false → MarksStay (fieldsOf block) e f
-  marks-ringed q = marks-stay-stated (fieldsOf block) e f (ap (λ (site : Site). markLost site) sited ∙ q)
+  marks-ringed = site-stated block e f (given .right) closed vs (given .round) some-pair
 
   pub front-19 : firstRefusal (before 19 tests) ≡ 0
   unfolding removalTests before firstRefusal

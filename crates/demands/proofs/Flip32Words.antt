@@ -38,8 +38,7 @@ use Rattle.tables.proofs.CirclesByWords.{close-words, words-close}
 use Rattle.demands.specs.Premises.{TwoPoints, Held, edgeAt, OneMaterial, MarksStay}
 use Rattle.demands.specs.Kernels.{ours}
 use Rattle.demands.specs.FlipWords.{NotThree, RingOfThree, Tells32}
-use Rattle.demands.proofs.EdgeFound.{site-is, site-sound}
-use Rattle.demands.proofs.MarksByWords.{marks-stay-stated, marks-stay-tested}
+use Rattle.demands.proofs.EdgeFound.{site-is, site-tested, site-stated, site-sound}
 use Rattle.demands.proofs.PremisesMet.{sound-round}
 use Rattle.demands.proofs.RingWords.{pair, tells-12}
 use Rattle.answers.proofs.ToldByNumber.{past, once, told, exactly, unless, goes-past}
@@ -156,13 +155,8 @@ module _ (block out : List ℕ) (e f u v w : ℕ) (given : RingOfThree block out
       unless (mixed (ringed .removed)) (exactly 20 (flip32Tests ringed) tt tt tt left-20 refl) (not-mixed (ringed .removed))
       (one-region (ringed .removed))
 
-  -- no marked face goes, by the test and by words
-
-  ringed-marks : MarksStay (fieldsOf block) e f → markLost ringed ≡ false
-  ringed-marks stay = ap (λ (site : Site). markLost site) (sym sited) ∙ marks-stay-tested (fieldsOf block) e f stay
-
-  marks-ringed : markLost ringed ≡ false → MarksStay (fieldsOf block) e f
-  marks-ringed q = marks-stay-stated (fieldsOf block) e f (ap (λ (site : Site). markLost site) sited ∙ q)
+  unmarked : MarksStay (fieldsOf block) e f → markLost ringed ≡ false
+  unmarked = site-tested block e f (given .right) true (u ∷ v ∷ w ∷ []) (given .round) (omega arith)
 
   -- it keeps the mesh rule where no other row has the triangle for a face
   keeps-is : keepsMeshRule points after ≡ not (any (usesEitherWay (u, v, w)) (off rows (min e f) (max e f)))
@@ -183,14 +177,15 @@ module _ (block out : List ℕ) (e f u v w : ℕ) (given : RingOfThree block out
     flip-tells-23 : (flipAnswer block out (e ∷ f ∷ []) ≡ 23) ↔ (MarksStay (fieldsOf block) e f → ⊥)
     unfolding flip32Tests once testOf every
     flip-tells-23 =
-        unless (markLost ringed) (exactly 23 (flip32Tests ringed) tt tt tt left-20 front-23) ringed-marks marks-ringed
+        unless (markLost ringed) (exactly 23 (flip32Tests ringed) tt tt tt left-20 front-23) unmarked
+        (site-stated block e f (given .right) true (u ∷ v ∷ w ∷ []) (given .round) (omega arith))
 
   module _ (one : OneMaterial (fieldsOf block) e f) (stay : MarksStay (fieldsOf block) e f) where
     left-15 : flipAnswer block out (e ∷ f ∷ []) ≡ firstRefusal ((15, not (keepsMeshRule points after)) ∷ [])
     unfolding flip32Tests before past testOf firstRefusal every
     left-15 =
         left-20
-        ∙ goes-past 23 (flip32Tests ringed) tt (front-23 one) (ringed-marks stay)
+        ∙ goes-past 23 (flip32Tests ringed) tt (front-23 one) (unmarked stay)
         ∙ ap (λ p. firstRefusal ((15, p) ∷ [])) way-is
 
     flip-tells-15 : (flipAnswer block out (e ∷ f ∷ []) ≡ 15) ↔ (T (keepsMeshRule points after) → ⊥)
