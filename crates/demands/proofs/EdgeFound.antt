@@ -1,4 +1,4 @@
--- An edge whose tetrahedra form one ring, or one chain: the kernel's edge in its patch is that one, and 9 to 13, 19, 20 and 14 are passed
+-- An edge whose tetrahedra form one ring, or one chain: the kernel's edge in its patch is that one, and 9 to 13, 19, 20, 23 and 14 are passed
 -- over.
 use Prim.Native.Nat.{ℕ, _+_, _-_, _≤_, _<_, min, max}
 use mathlib.Core.Bool.{Bool, true, false, cond, not, _&&_}
@@ -21,7 +21,7 @@ use Rattle.links.specs.Links.{link, starts}
 use Rattle.ring.specs.Ring.{Site, siteOf, m, flat, numbersWrong, edgeMissing, whole, orChains, linkOpen, manyCircles}
 use Rattle.ring.specs.Ring.{lengthWrong, notFlat, edgeTests}
 use Rattle.triangulation.specs.Triangulation.{rowsAfter}
-use Rattle.calls.specs.Removing.{noRoom, removalTests, removeAnswer, Sound}
+use Rattle.calls.specs.Removing.{noRoom, markLost, removalTests, removeAnswer, Sound}
 use Rattle.calls.proofs.CallTests.{remove-left}
 use Rattle.tables.specs.RoundAnEdge.{pairCount, Round}
 use Rattle.tables.proofs.RingReplaced.{length-passes}
@@ -29,10 +29,11 @@ use Rattle.tables.proofs.RowsAndLinks.{round-ends, as-many}
 use Rattle.tables.proofs.RoundByWords.{closed-is, ring-is, whole-is}
 use Rattle.accepted.proofs.AcceptedCalls.{rows-after}
 use Rattle.demands.specs.Kernels.{ours}
-use Rattle.demands.specs.Premises.{edgeAt, Ringed, FlatChain, OneMaterial, HasRoom}
+use Rattle.demands.specs.Premises.{edgeAt, Ringed, FlatChain, OneMaterial, MarksStay, HasRoom}
 use Rattle.demands.specs.Words.{Passes}
 use Rattle.answers.proofs.ToldByNumber.{past, goes-past}
 use Rattle.demands.proofs.Demand1.{numbered}
+use Rattle.demands.proofs.MarksByWords.{marks-stay-stated, marks-stay-tested}
 
 pub numbers-fit : (points e f : ℕ) → e < points → f < points → (e ≡ f → ⊥) → numbersWrong points (e ∷ f ∷ []) ≡ false
 unfolding numbersWrong every different any
@@ -67,6 +68,14 @@ module _ (block : List ℕ) (e f : ℕ) (right : RightBlock block) (closed : Boo
         ring-is a b points (patch .rows) (right .body .rule) closed vs round some-pair,
       )
 
+  -- no marked face of it goes, by the test and by words
+
+  pub site-tested : MarksStay patch e f → markLost its ≡ false
+  site-tested stay = ap (λ (site : Site). markLost site) (sym site-is) ∙ marks-stay-tested patch e f stay
+
+  pub site-stated : markLost its ≡ false → MarksStay patch e f
+  site-stated q = marks-stay-stated patch e f (ap (λ (site : Site). markLost site) site-is ∙ q)
+
   all-on : whole its ≡ true
   unfolding whole
   all-on = yes-is (every (has vs) (starts (its .links)))
@@ -100,7 +109,7 @@ one-round block e f right c d vs ws p some-p q some-q =
     let same = sym (site-is block e f right c vs p some-p) ∙ site-is block e f right d ws q some-q in
     (ap (λ (site : Site). site .closed) same, ap (λ (site : Site). site .ring) same)
 
--- ---- none of 9 to 14, 19 and 20
+-- ---- none of 9 to 14, 19, 20 and 23
 
 module _ (block out : List ℕ) (e f : ℕ) (closed : Bool) (vs : List ℕ) (given : Ringed block out e f closed vs) where
   abbrev ringed : Site
@@ -122,7 +131,7 @@ module _ (block out : List ℕ) (e f : ℕ) (closed : Bool) (vs : List ℕ) (giv
   abbrev pub tests : Tests
   tests = removalTests ringed
 
-  -- 13 to 16, 19 and 20 are left
+  -- 13 to 16, 19, 20 and 23 are left
   pub left : removeAnswer block out e f ≡ firstRefusal tests
   left =
       remove-left block out e f ringed-sound (given .right-length)
@@ -131,9 +140,15 @@ module _ (block out : List ℕ) (e f : ℕ) (closed : Bool) (vs : List ℕ) (giv
   pub length-right : lengthWrong ringed ≡ false
   length-right = length-passes ringed (given .from-three) (given .to-ten)
 
-  passes-13 : T (has (0 ∷ 19 ∷ 20 ∷ 14 ∷ 15 ∷ 16 ∷ []) (removeAnswer block out e f))
+  passes-13 : T (has (0 ∷ 19 ∷ 20 ∷ 23 ∷ 14 ∷ 15 ∷ 16 ∷ []) (removeAnswer block out e f))
   unfolding removalTests before past testOf firstRefusal every
   passes-13 = rw (left ∙ goes-past 13 tests tt refl length-right) (on-list (past 13 tests))
+
+  pub ringed-marks : MarksStay (fieldsOf block) e f → markLost ringed ≡ false
+  ringed-marks = site-tested block e f (given .right) closed vs (given .round) some-pair
+
+  pub marks-ringed : markLost ringed ≡ false → MarksStay (fieldsOf block) e f
+  marks-ringed = site-stated block e f (given .right) closed vs (given .round) some-pair
 
   pub front-19 : firstRefusal (before 19 tests) ≡ 0
   unfolding removalTests before firstRefusal
@@ -148,7 +163,7 @@ module _ (block out : List ℕ) (e f : ℕ) (closed : Bool) (vs : List ℕ) (giv
         go true h = refl
         go false h = rw (h refl)
 
-    passes-19 : T (has (0 ∷ 20 ∷ 14 ∷ 15 ∷ 16 ∷ []) (removeAnswer block out e f))
+    passes-19 : T (has (0 ∷ 20 ∷ 23 ∷ 14 ∷ 15 ∷ 16 ∷ []) (removeAnswer block out e f))
     unfolding removalTests past testOf every
     passes-19 = rw (left ∙ goes-past 19 tests tt front-19 ringed-flat) (on-list (past 19 tests))
 
@@ -166,22 +181,31 @@ module _ (block out : List ℕ) (e f : ℕ) (closed : Bool) (vs : List ℕ) (giv
     ringed-room room = le-ltb maxRows (rowsAfter ringed) (omega (arith, after-is))
 
     module _ (one : OneMaterial (fieldsOf block) e f) where
-      passes-20 : T (has (0 ∷ 14 ∷ 15 ∷ 16 ∷ []) (removeAnswer block out e f))
+      passes-20 : T (has (0 ∷ 23 ∷ 14 ∷ 15 ∷ 16 ∷ []) (removeAnswer block out e f))
       unfolding removalTests past testOf every
       passes-20 = rw (left ∙ goes-past 20 tests tt front-20 (not-mixed (ringed .removed) one)) (on-list (past 20 tests))
 
-      pub front-14 : firstRefusal (before 14 tests) ≡ 0
+      pub front-23 : firstRefusal (before 23 tests) ≡ 0
       unfolding removalTests before firstRefusal
-      front-14 = rw (length-right, ringed-flat, not-mixed (ringed .removed) one)
+      front-23 = rw (length-right, ringed-flat, not-mixed (ringed .removed) one)
 
-      module _ (room : HasRoom block closed vs) where
-        passes-14 : T (has (0 ∷ 15 ∷ 16 ∷ []) (removeAnswer block out e f))
+      module _ (stay : MarksStay (fieldsOf block) e f) where
+        passes-23 : T (has (0 ∷ 14 ∷ 15 ∷ 16 ∷ []) (removeAnswer block out e f))
         unfolding removalTests past testOf every
-        passes-14 = rw (left ∙ goes-past 14 tests tt front-14 (ringed-room room)) (on-list (past 14 tests))
+        passes-23 = rw (left ∙ goes-past 23 tests tt front-23 (ringed-marks stay)) (on-list (past 23 tests))
 
-        pub front-15 : firstRefusal (before 15 tests) ≡ 0
+        pub front-14 : firstRefusal (before 14 tests) ≡ 0
         unfolding removalTests before firstRefusal
-        front-15 = rw (length-right, ringed-flat, not-mixed (ringed .removed) one, ringed-room room)
+        front-14 = rw (length-right, ringed-flat, not-mixed (ringed .removed) one, ringed-marks stay)
+
+        module _ (room : HasRoom block closed vs) where
+          passes-14 : T (has (0 ∷ 15 ∷ 16 ∷ []) (removeAnswer block out e f))
+          unfolding removalTests past testOf every
+          passes-14 = rw (left ∙ goes-past 14 tests tt front-14 (ringed-room room)) (on-list (past 14 tests))
+
+          pub front-15 : firstRefusal (before 15 tests) ≡ 0
+          unfolding removalTests before firstRefusal
+          front-15 = rw (length-right, ringed-flat, not-mixed (ringed .removed) one, ringed-marks stay, ringed-room room)
 
 pub passes : Passes ours
 passes = record {
@@ -189,6 +213,8 @@ passes = record {
   by-19 = λ block out e f closed vs given flat. rw (numbered .remove-number block out e f) (passes-19 block out e f closed vs given flat);
   by-20 = λ block out e f closed vs given flat one.
       rw (numbered .remove-number block out e f) (passes-20 block out e f closed vs given flat one);
-  by-14 = λ block out e f closed vs given flat one room.
-      rw (numbered .remove-number block out e f) (passes-14 block out e f closed vs given flat one room);
+  by-23 = λ block out e f closed vs given flat one stay.
+      rw (numbered .remove-number block out e f) (passes-23 block out e f closed vs given flat one stay);
+  by-14 = λ block out e f closed vs given flat one stay room.
+      rw (numbered .remove-number block out e f) (passes-14 block out e f closed vs given flat one stay room);
 }

@@ -19,6 +19,7 @@ use Rattle.rows.specs.Regions.{mixed}
 use Rattle.rows.proofs.RegionsOfRows.{one-region, not-mixed}
 use Rattle.mesh.specs.Mesh.{numbersFit, keepsMeshRule}
 use Rattle.mesh.proofs.MeshRuleStated.{keeps-fits}
+use Rattle.marking.specs.Marking.{markGoes}
 use Rattle.layout.specs.Layout.{Patch, blockBytes, maxRows, fieldsOf}
 use Rattle.block.specs.Holding.{RightBlock}
 use Rattle.answers.specs.Answers.{Tests, firstRefusal}
@@ -32,8 +33,9 @@ use Rattle.tables.proofs.FacingRows.{face-apart}
 use Rattle.tables.proofs.ApexesByWords.{the-rows, one-words, words-one, TwoApexes, face-different, two-apexes, one-more}
 use Rattle.tables.proofs.ThreeRowsByWords.{new-is}
 use Rattle.demands.specs.Kernels.{ours}
-use Rattle.demands.specs.FlipWords.{ThreePoints, Faced, OneMaterialAt, Roomy, Tells23}
+use Rattle.demands.specs.FlipWords.{ThreePoints, Faced, OneMaterialAt, Unmarked, Roomy, Tells23}
 use Rattle.answers.proofs.ToldByNumber.{past, once, told, exactly, unless, goes-past}
+use Rattle.demands.proofs.MarksByWords.{face-stated, face-tested}
 use Rattle.demands.proofs.FrontTests.{rule-15, rule-0, returned}
 
 module _ (block out : List ℕ) (x y z : ℕ) (right : RightBlock block) (size : length out ≡ blockBytes) where
@@ -178,14 +180,25 @@ module _ (block out : List ℕ) (x y z a b : ℕ) (given : Faced block out x y z
       unless (mixed gone) (exactly 20 theirs tt tt tt answer-is front-20) (not-mixed gone) (one-region gone)
 
   module _ (one : OneMaterialAt its x y z) where
-    left-14 : firstRefusal theirs ≡ firstRefusal (past 20 theirs)
+    left-23 : firstRefusal theirs ≡ firstRefusal (past 20 theirs)
     unfolding flip23Tests pairOf testOf every
-    left-14 = goes-past 20 theirs tt front-20 (not-mixed (those (holdsFace list) (its .rows)) one)
+    left-23 = goes-past 20 theirs tt front-20 (not-mixed (those (holdsFace list) (its .rows)) one)
+
+    flip-tells-23 : (flipAnswer block out (x ∷ y ∷ z ∷ []) ≡ 23) ↔ (Unmarked its x y z → ⊥)
+    unfolding flip23Tests past once before testOf firstRefusal every
+    flip-tells-23 =
+        unless (markGoes list (pairOf its list .removed)) (exactly 23 (past 20 theirs) tt tt tt (answer-is ∙ left-23) refl)
+        (face-tested its list) (face-stated its list)
+
+  module _ (one : OneMaterialAt its x y z) (unmarked : Unmarked its x y z) where
+    left-14 : firstRefusal theirs ≡ firstRefusal (past 23 (past 20 theirs))
+    unfolding flip23Tests past before testOf firstRefusal every
+    left-14 = left-23 one ∙ goes-past 23 (past 20 theirs) tt refl (face-tested its list unmarked)
 
     tells-14 : (flipAnswer block out (x ∷ y ∷ z ∷ []) ≡ 14) ↔ (maxRows < length (its .rows) + 1)
     unfolding flip23Tests past once before testOf firstRefusal every
     tells-14 =
-        let (to, from) = exactly 14 (past 20 theirs) tt tt tt (answer-is ∙ left-14) refl in (
+        let (to, from) = exactly 14 (past 23 (past 20 theirs)) tt tt tt (answer-is ∙ left-14) refl in (
           λ h. omega (arith, one-more its list two, ltb-true maxRows (length table) (to h)),
           λ h. from (lt-ltb maxRows (length table) (omega (arith, one-more its list two))),
         )
@@ -196,7 +209,7 @@ module _ (block out : List ℕ) (x y z a b : ℕ) (given : Faced block out x y z
     left-15 room =
         answer-is
         ∙ left-14
-        ∙ goes-past 14 (past 20 theirs) tt refl (le-ltb maxRows (length table) (omega (arith, one-more its list two)))
+        ∙ goes-past 14 (past 23 (past 20 theirs)) tt refl (le-ltb maxRows (length table) (omega (arith, one-more its list two)))
 
 module _ (block out : List ℕ) (x y z a b u v w : ℕ) (given : Roomy block out x y z a b u v w) where
   abbrev rule-kept : Bool
@@ -205,7 +218,7 @@ module _ (block out : List ℕ) (x y z a b u v w : ℕ) (given : Roomy block out
   left-rule : flipAnswer block out (x ∷ y ∷ z ∷ []) ≡ firstRefusal ((15, not rule-kept) ∷ [])
   unfolding patchAfter23 pairOf
   left-rule =
-      left-15 block out x y z a b (given .faced) (given .one-region) (given .room)
+      left-15 block out x y z a b (given .faced) (given .one-region) (given .unmarked) (given .room)
       ∙ ap (λ new.
       let table = those (λ row. not (holdsFace (x ∷ y ∷ z ∷ []) row)) (fieldsOf block .rows) ++ new in
       firstRefusal ((15, not (keepsMeshRule (length (fieldsOf block .points)) table)) ∷ []))
@@ -225,7 +238,8 @@ tells-23 = record {
   eleven = λ block out x y z right size three. returned (tells-11 block out x y z right size three);
   eighteen = λ block out x y z right size three. returned (tells-18 block out x y z right size three);
   twenty = λ block out x y z a b given. returned (tells-20 block out x y z a b given);
-  fourteen = λ block out x y z a b given one. returned (tells-14 block out x y z a b given one);
+  twenty-three = λ block out x y z a b given one. returned (flip-tells-23 block out x y z a b given one);
+  fourteen = λ block out x y z a b given one unmarked. returned (tells-14 block out x y z a b given one unmarked);
   fifteen = λ block out x y z a b u v w given. returned (tells-15 block out x y z a b u v w given);
   done = λ block out x y z a b u v w given. returned (tells-0 block out x y z a b u v w given);
 }

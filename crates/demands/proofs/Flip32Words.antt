@@ -1,5 +1,5 @@
 -- The refusals of a flip with two numbers are given exactly when their words are true of the block: 9, 10 and 12 as of every call on an edge, 11 of every
--- open case, 20 as of a removal; and a ring of three has one way to be triangulated.
+-- open case, 20 and 23 as of a removal; and a ring of three has one way to be triangulated.
 use Prim.Native.Nat.{ℕ, min, max}
 use mathlib.Core.Bool.{Bool, true, false, not, _&&_, _||_}
 use mathlib.Core.List.{List, [], _∷_, _++_, flatMap}
@@ -16,6 +16,8 @@ use Rattle.mesh.specs.Mesh.{usesEitherWay, keepsMeshRule}
 use Rattle.rows.specs.Rows.{holdsEdge}
 use Rattle.rows.specs.Regions.{mixed}
 use Rattle.rows.proofs.RegionsOfRows.{one-region, not-mixed}
+use Rattle.marking.specs.Marking.{newMark}
+use Rattle.kept_marks.proofs.DressedRows.{dress-keeps}
 use Rattle.layout.specs.Layout.{Patch, fieldsOf, blockBytes}
 use Rattle.answers.specs.Answers.{Tests, firstRefusal}
 use Rattle.body.specs.Body.{bodyTests}
@@ -26,17 +28,17 @@ use Rattle.ring.specs.SoundRing.{SoundRing}
 use Rattle.triangulation.specs.Triangulation.{side, cut, span, triangles, closingSides, diagonals, waysWithin, twoRows, newRows, tableAfter}
 use Rattle.triangulation.specs.Admissible.{admissible, pieceAdmissible, endFaces, barred}
 use Rattle.triangulation.proofs.AdmissibleByFaces.{ring-admissible}
-use Rattle.calls.specs.Removing.{blockTests, noWay, Sound}
+use Rattle.calls.specs.Removing.{blockTests, noWay, markLost, Sound}
 use Rattle.calls.specs.Flipping.{flip32Tests, flipAnswer}
 use Rattle.calls.proofs.CallTests.{reached, flip-two, flip32-left}
 use Rattle.calls.proofs.SoundEdges.{sound-site}
 use Rattle.tables.specs.RoundAnEdge.{Round, AllClose, TwoCircles}
-use Rattle.tables.specs.FlipRows.{off, after32}
+use Rattle.tables.specs.FlipRows.{off, new32, after32}
 use Rattle.tables.proofs.CirclesByWords.{close-words, words-close}
-use Rattle.demands.specs.Premises.{TwoPoints, Held, edgeAt, OneMaterial}
+use Rattle.demands.specs.Premises.{TwoPoints, Held, edgeAt, OneMaterial, MarksStay}
 use Rattle.demands.specs.Kernels.{ours}
 use Rattle.demands.specs.FlipWords.{NotThree, RingOfThree, Tells32}
-use Rattle.demands.proofs.EdgeFound.{site-is, site-sound}
+use Rattle.demands.proofs.EdgeFound.{site-is, site-tested, site-stated, site-sound}
 use Rattle.demands.proofs.PremisesMet.{sound-round}
 use Rattle.demands.proofs.RingWords.{pair, tells-12}
 use Rattle.answers.proofs.ToldByNumber.{past, once, told, exactly, unless, goes-past}
@@ -108,7 +110,7 @@ module _ (block out : List ℕ) (e f : ℕ) (held : Held block out e f) where
         ∙ stops 13 (flip32Tests its) tt refl (ap not (ne-eqb (m its) minRing (λ i. other (sym length-is ∙ i)))),
   )
 
--- ---- 20, 15, and 0
+-- ---- 20, 23, 15, and 0
 
 module _ (block out : List ℕ) (e f u v w : ℕ) (given : RingOfThree block out e f u v w) where
   abbrev rows : List Row
@@ -129,10 +131,18 @@ module _ (block out : List ℕ) (e f u v w : ℕ) (given : RingOfThree block out
   sound : Sound block e f
   sound = site-sound block e f (given .right) true (u ∷ v ∷ w ∷ []) (given .round) (omega arith)
 
+  -- the table without the new marks
+  abbrev plain : List Row
+  plain = off rows (min e f) (max e f) ++ new32 rows (min e f) (max e f) u v w
+
+  -- it keeps the mesh rule where the table does
+  plain-is : keepsMeshRule points after ≡ keepsMeshRule points plain
+  plain-is = dress-keeps (newMark (ringed .removed) (ringed .kept)) points (ringed .kept) (new32 rows (min e f) (max e f) u v w)
+
   -- the one way is the triangle
   way-is : noWay ringed ≡ not (keepsMeshRule points after)
   unfolding noWay any admissible tableAfter newRows twoRows triangles span waysWithin flatMap numbersFrom
-  way-is = ap not (or-false (keepsMeshRule points after))
+  way-is = ap not (or-false (keepsMeshRule points plain) ∙ sym plain-is)
 
   left-20 : flipAnswer block out (e ∷ f ∷ []) ≡ firstRefusal (flip32Tests ringed)
   left-20 =
@@ -145,22 +155,37 @@ module _ (block out : List ℕ) (e f u v w : ℕ) (given : RingOfThree block out
       unless (mixed (ringed .removed)) (exactly 20 (flip32Tests ringed) tt tt tt left-20 refl) (not-mixed (ringed .removed))
       (one-region (ringed .removed))
 
+  unmarked : MarksStay (fieldsOf block) e f → markLost ringed ≡ false
+  unmarked = site-tested block e f (given .right) true (u ∷ v ∷ w ∷ []) (given .round) (omega arith)
+
   -- it keeps the mesh rule where no other row has the triangle for a face
   keeps-is : keepsMeshRule points after ≡ not (any (usesEitherWay (u, v, w)) (off rows (min e f) (max e f)))
   unfolding admissible tableAfter newRows twoRows triangles diagonals closingSides span barred endFaces pieceAdmissible any flatMap
   keeps-is =
       let ring : SoundRing ringed = subst SoundRing sited (sound-site block e f sound) in
       let used = any (usesEitherWay (u, v, w)) (off rows (min e f) (max e f)) in
-      ring-admissible ringed ring (cut side side) refl (omega arith)
+      plain-is
+      ∙ ring-admissible ringed ring (cut side side) refl (omega arith)
       ∙ and-true (not (used || false))
       ∙ ap not (or-false used)
 
   module _ (one : OneMaterial (fieldsOf block) e f) where
+    front-23 : firstRefusal (before 23 (flip32Tests ringed)) ≡ 0
+    unfolding flip32Tests before firstRefusal
+    front-23 = rw (not-mixed (ringed .removed) one)
+
+    flip-tells-23 : (flipAnswer block out (e ∷ f ∷ []) ≡ 23) ↔ (MarksStay (fieldsOf block) e f → ⊥)
+    unfolding flip32Tests once testOf every
+    flip-tells-23 =
+        unless (markLost ringed) (exactly 23 (flip32Tests ringed) tt tt tt left-20 front-23) unmarked
+        (site-stated block e f (given .right) true (u ∷ v ∷ w ∷ []) (given .round) (omega arith))
+
+  module _ (one : OneMaterial (fieldsOf block) e f) (stay : MarksStay (fieldsOf block) e f) where
     left-15 : flipAnswer block out (e ∷ f ∷ []) ≡ firstRefusal ((15, not (keepsMeshRule points after)) ∷ [])
     unfolding flip32Tests before past testOf firstRefusal every
     left-15 =
         left-20
-        ∙ goes-past 20 (flip32Tests ringed) tt refl (not-mixed (ringed .removed) one)
+        ∙ goes-past 23 (flip32Tests ringed) tt (front-23 one) (unmarked stay)
         ∙ ap (λ p. firstRefusal ((15, p) ∷ [])) way-is
 
     flip-tells-15 : (flipAnswer block out (e ∷ f ∷ []) ≡ 15) ↔ (T (keepsMeshRule points after) → ⊥)
@@ -204,7 +229,8 @@ tells-32 = record {
   twelve = λ block out e f held. returned (flip-tells-12 block out e f held);
   thirteen = λ block out e f held. returned (tells-13 block out e f held);
   twenty = λ block out e f u v w given. returned (flip-tells-20 block out e f u v w given);
-  fifteen = λ block out e f u v w given one. returned (flip-tells-15 block out e f u v w given one);
-  fifteen-by-triangle = λ block out e f u v w given one. returned (by-triangle block out e f u v w given one);
-  done = λ block out e f u v w given one. returned (flip-tells-0 block out e f u v w given one);
+  twenty-three = λ block out e f u v w given one. returned (flip-tells-23 block out e f u v w given one);
+  fifteen = λ block out e f u v w given one stay. returned (flip-tells-15 block out e f u v w given one stay);
+  fifteen-by-triangle = λ block out e f u v w given one stay. returned (by-triangle block out e f u v w given one stay);
+  done = λ block out e f u v w given one stay. returned (flip-tells-0 block out e f u v w given one stay);
 }

@@ -4,6 +4,7 @@ pub mod AnyRowOrder
 pub mod BroughtBack
 pub mod FrontTests
 pub mod EdgeFound
+pub mod MarksByWords
 pub mod PremisesMet
 pub mod WaysAndTrees
 pub mod TotalFromRing

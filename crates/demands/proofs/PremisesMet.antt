@@ -20,7 +20,7 @@ use Rattle.ring.proofs.EdgeGoesRound.{tests-passed, numbers-right, site-goes-ro
 use Rattle.triangulation.specs.Triangulation.{Tri, triangles, rowsAfter}
 use Rattle.triangulation.proofs.TotalStays.{flat-zero}
 use Rattle.triangulation.proofs.WholeRing.{RingWay}
-use Rattle.calls.specs.Removing.{noRoom, Sound}
+use Rattle.calls.specs.Removing.{markLost, noRoom, Sound}
 use Rattle.calls.proofs.SoundEdges.{opens-rule, some-removed}
 use Rattle.tables.specs.RoundAnEdge.{Round}
 use Rattle.tables.proofs.RingReplaced.{length-fits}
@@ -28,6 +28,7 @@ use Rattle.tables.proofs.RoundByWords.{round-of}
 use Rattle.accepted.proofs.AcceptedCalls.{rows-after}
 use Rattle.demands.specs.Premises.{TwoPoints, Premises}
 use Rattle.demands.specs.RingTotals.{Surrounded}
+use Rattle.demands.proofs.MarksByWords.{marks-stay-stated}
 use Rattle.demands.proofs.WaysAndTrees.{tree-way}
 
 module _ (block : List ℕ) (e f : ℕ) (sound : Sound block e f) where
@@ -67,13 +68,14 @@ pub flat-chain : (site : Site) → notFlat site ≡ false → site .closed ≡ f
 flat-chain site h open-one =
     flat-zero site (ap (λ c. c || flat site) (sym open-one) ∙ not-false (site .closed || flat site) h)
 
--- so with 13, 19, 20 and 14 passed, and with a tree that keeps the mesh rule, the third demand's premises are met
+-- so with 13, 19, 20, 23 and 14 passed, and with a tree that keeps the mesh rule, the third demand's premises are met
 pub premises-by : (block out : List ℕ) (e f : ℕ) → Sound block e f → length out ≡ blockBytes
     → let site = siteOf (fieldsOf block) e f in
-    lengthWrong site ≡ false → notFlat site ≡ false → mixed (site .removed) ≡ false → noRoom site ≡ false → (t : Tri) → RingWay site t
+    lengthWrong site ≡ false → notFlat site ≡ false → mixed (site .removed) ≡ false → markLost site ≡ false
+    → noRoom site ≡ false → (t : Tri) → RingWay site t
     → Premises block out e f (site .closed) (site .ring)
 unfolding siteOf
-premises-by block out e f sound size length-right flat unmixed room t way =
+premises-by block out e f sound size length-right flat unmixed unmarked room t way =
     let site = siteOf (fieldsOf block) e f in
     let (low, high) = length-fits site length-right in
     record {
@@ -87,6 +89,7 @@ premises-by block out e f sound size length-right flat unmixed room t way =
       };
       flat = flat-chain site flat;
       one-region = one-region (site .removed) unmixed;
+      no-marked-face-goes = marks-stay-stated (fieldsOf block) e f unmarked;
       room = omega (arith, rows-after block e f sound low, ltb-false maxRows (rowsAfter site) room);
       some-way = (triangles 1 t, tree-way site (omega (arith, low)) t way);
     }
