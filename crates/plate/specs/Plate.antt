@@ -38,7 +38,7 @@ plateOf rows = record { points = platePoints (at 12 2 12); rows = rows }
 
 -- the chain keeps its own start, 3, which is not the smallest; either order of the ends has the same answer
 pub plate-removed :
-    T (same eqb (printout (bytesOf plate ++ (0 ∷ 1 ∷ [])))
+    T (same eqb (printout (bytesOf 1 plate ++ (0 ∷ 1 ∷ [])))
     (text "answer 0\nbefore 3 0 0 608 2\nafter 4 0 0 809 1\nring 3 5 4 2\nrow 0 3 5 2 7\nrow 3 5 2 1 7\nrow 0 5 4 2 7\nrow 5 4 2 1 7\n")
     && eqb (answer plate 1 0) 0)
 unfolding platePoints plateRows plate definitions
@@ -46,7 +46,7 @@ plate-removed = tt
 
 -- the plain 3-2 flip gets 11; so does the removal, where there are two chains
 pub open-cases :
-    T (eqb (flipAnswer (bytesOf plate) blank (0 ∷ 1 ∷ [])) 11 && eqb (answer (plateOf (row 0 1 4 2 ∷ row 0 1 3 5 ∷ [])) 0 1) 11)
+    T (eqb (flipAnswer (bytesOf 1 plate) blank (0 ∷ 1 ∷ [])) 11 && eqb (answer (plateOf (row 0 1 4 2 ∷ row 0 1 3 5 ∷ [])) 0 1) 11)
 unfolding platePoints plateRows plate plateOf definitions
 open-cases = tt
 
