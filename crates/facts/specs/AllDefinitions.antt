@@ -7,11 +7,13 @@ use Rattle.volume.specs.Volume.{pointIn, pointsIn, determinant, D, squaredLengt
 use Rattle.quality.specs.Quality.{qualityOf, quality, worse, worst, best}
 use Rattle.score.specs.Score.{scoreOf, worstScore, badness, totalBadness, octaveOf, octave}
 use Rattle.page.specs.Page.{quotient, shown, pageRow}
-use Rattle.rows.specs.Rows.{rowIn, rowsIn}
+use Rattle.rows.specs.Labels.{labelsOf, labelByte, hasRoomFor}
+use Rattle.rows.specs.Rows.{storedRow, rowIn, rowsIn}
 use Rattle.mesh.specs.Mesh.{faces, sameFace, uses, numbersFit, facesApart, keepsMeshRule}
 use Rattle.rows.specs.RowMeasure.{rowD, rowS, rowQuality}
 use Rattle.rows.specs.Regions.{regionOf, mixed}
 use Rattle.rows.specs.Tetrahedra.{evenly, arrangedFrom}
+use Rattle.marking.specs.Marking.{markedFaces, marks, markedIn, agree, marksOver, dressBy, newMark}
 use Rattle.layout.specs.Layout.{fieldsOf, bodyOf, sumsOnto, sumBytes}
 use Rattle.layout.specs.Layout.{sumWrong}
 use Rattle.body.specs.Body.{zeroMissing, numberWrong, bodyTests}
@@ -41,8 +43,9 @@ unfolding
     pointIn pointsIn determinant D squaredLength S qualityOf quality worse worst best
     roundedUp scoreOf worstScore badness totalBadness octaveOf octave
     quotient shown pageRow
-    rowIn rowsIn faces sameFace uses numbersFit facesApart keepsMeshRule rowD rowS rowQuality
+    labelsOf labelByte hasRoomFor storedRow rowIn rowsIn faces sameFace uses numbersFit facesApart keepsMeshRule rowD rowS rowQuality
     evenly arrangedFrom regionOf mixed
+    markedFaces marks markedIn agree marksOver dressBy newMark
     fieldsOf bodyOf sumsOnto sumBytes
     sumWrong zeroMissing numberWrong firstRefusal bodyTests openAnswer
     link next walk smallest allClose circleOf heads follow chainOf siteOf flat numbersWrong whole linkOpen manyCircles edgeTests

@@ -88,11 +88,11 @@ blank = replicate blockBytes 0
 
 -- the answer of the removal of edge e f
 abbrev pub answer : Patch → ℕ → ℕ → ℕ
-answer patch e f = removeAnswer (bytesOf patch) blank e f
+answer patch e f = removeAnswer (bytesOf 1 patch) blank e f
 
 -- the patch after an accepted removal of edge 0, 1
 abbrev after : Patch → Patch
-after patch = fieldsOf (removeBytes (bytesOf patch) blank 0 1)
+after patch = fieldsOf (removeBytes (bytesOf 1 patch) blank 0 1)
 
 -- the new rows round edge 0, 1 by a triangulation of the ring, whether it is carried out or not
 abbrev newBy : Tri → Patch → Patch
@@ -145,15 +145,15 @@ facts =
     && eqb (length (ways 3)) 2
     && every (λ t. Ds (newBy t octahedron) (replicate 4 432) && Ss (newBy t octahedron) (replicate 4 504)) (ways 3))
     -- 7. A without its third row, edge 0, 1: 19 for the removal; the plain 3-2 flip still gets 11.
-    ∷ (eqb (answer openA 0 1) 19 && eqb (flipAnswer (bytesOf openA) blank (0 ∷ 1 ∷ [])) 11)
+    ∷ (eqb (answer openA 0 1) 19 && eqb (flipAnswer (bytesOf 1 openA) blank (0 ∷ 1 ∷ [])) 11)
     -- 8. A with a sixth point and the row (5,2,3,4): 15.
     ∷ eqb (answer blockedA 0 1) 15
     -- 9. A, edge 0, 0 or 0, 5: 9; with an unused sixth point, 0, 5 gives 10.
     ∷ (eqb (answer blockA 0 0) 9 && eqb (answer blockA 0 5) 9 && eqb (answer sixA 0 5) 10)
     -- 10. 2-3 flip of face 2, 3, 4 in A's result: A's rows, in A's order.
-    ∷ same eqb (flipBytes (bytesOf (after blockA)) blank (2 ∷ 3 ∷ 4 ∷ [])) (bytesOf blockA)
+    ∷ same eqb (flipBytes (bytesOf 1 (after blockA)) blank (2 ∷ 3 ∷ 4 ∷ [])) (bytesOf 1 blockA)
     -- 11. The block with no points and no rows ends in bytes 1, 0, 252, 1.
-    ∷ same eqb (drop bodyBytes (bytesOf nothing)) (1 ∷ 0 ∷ 252 ∷ 1 ∷ [])
+    ∷ same eqb (drop bodyBytes (bytesOf 1 nothing)) (1 ∷ 0 ∷ 252 ∷ 1 ∷ [])
     -- 12. A regular row: D 3456, S 1728, score 1000, badness 1.
     ∷ (Ds regular (3456 ∷ []) && Ss regular (1728 ∷ []) && scores regular (1000 ∷ []) && badnesses regular (1 ∷ []))
     ∷ []
@@ -165,7 +165,7 @@ twelve-facts = tt
 
 -- the printout of block A, edge 0, 1
 pub printout-of-A :
-    T (same eqb (printout (bytesOf blockA ++ (0 ∷ 1 ∷ [])))
+    T (same eqb (printout (bytesOf 1 blockA ++ (0 ∷ 1 ∷ [])))
     (text "answer 0\nbefore 3 0 0 584 1\nafter 2 0 0 782 1\nring 2 3 4\nrow 0 2 3 4 7\nrow 2 3 4 1 7\n"))
 unfolding blockAWith blockA definitions
 printout-of-A = tt

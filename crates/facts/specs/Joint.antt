@@ -33,21 +33,21 @@ joint = jointOf 1 2
 
 -- it is refused, in either order of the ends; in one material the edge is removed
 pub joint-refused :
-    T (same eqb (printout (bytesOf joint ++ (0 ∷ 1 ∷ []))) (text "answer 20\n")
+    T (same eqb (printout (bytesOf 1 joint ++ (0 ∷ 1 ∷ []))) (text "answer 20\n")
     && eqb (answer joint 1 0) 20 && eqb (answer (jointOf 1 1) 0 1) 0)
 unfolding jointOf joint definitions
 joint-refused = tt
 
 -- a face between both is not flipped, a face inside either is
 pub joint-flipped :
-    T (eqb (flipAnswer (bytesOf joint) blank (0 ∷ 1 ∷ 2 ∷ [])) 20 && eqb (flipAnswer (bytesOf joint) blank (0 ∷ 1 ∷ 3 ∷ [])) 0
-    && eqb (flipAnswer (bytesOf joint) blank (0 ∷ 1 ∷ 4 ∷ [])) 20 && eqb (flipAnswer (bytesOf joint) blank (0 ∷ 1 ∷ 5 ∷ [])) 0)
+    T (eqb (flipAnswer (bytesOf 1 joint) blank (0 ∷ 1 ∷ 2 ∷ [])) 20 && eqb (flipAnswer (bytesOf 1 joint) blank (0 ∷ 1 ∷ 3 ∷ [])) 0
+    && eqb (flipAnswer (bytesOf 1 joint) blank (0 ∷ 1 ∷ 4 ∷ [])) 20 && eqb (flipAnswer (bytesOf 1 joint) blank (0 ∷ 1 ∷ 5 ∷ [])) 0)
 unfolding jointOf joint definitions
 joint-flipped = tt
 
 -- and there is then as much copper and as much epoxy as there was
 pub joint-totals :
-    T (let after = fieldsOf (flipBytes (bytesOf joint) blank (0 ∷ 1 ∷ 3 ∷ [])) in
+    T (let after = fieldsOf (flipBytes (bytesOf 1 joint) blank (0 ∷ 1 ∷ 3 ∷ [])) in
     sameZ (regionD (after .points) 1 (after .rows)) (regionD (joint .points) 1 (joint .rows))
     && sameZ (regionD (after .points) 2 (after .rows)) (regionD (joint .points) 2 (joint .rows)))
 unfolding jointOf joint totalD definitions

@@ -1,3 +1,4 @@
 pub mod AllDefinitions
 pub mod Facts
 pub mod Joint
+pub mod Marked

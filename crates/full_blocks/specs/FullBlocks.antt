@@ -56,7 +56,7 @@ upTo n (test ∷ tests) = elim (eqb (test .0) n) [ true ↦ test ∷ [] | false 
 abbrev asFarAs14 : Patch → ℕ
 asFarAs14 patch =
     let site = siteOf patch 0 1 in
-    firstRefusal (upTo 14 (blockTests (bytesOf patch) blank ++ edgeTests orChains site 0 1 ++ removalTests site))
+    firstRefusal (upTo 14 (blockTests (bytesOf 1 patch) blank ++ edgeTests orChains site 0 1 ++ removalTests site))
 
 -- 58 rows with m = 6 pass, 59 get 14; 60 rows with m = 4 pass
 pub room :

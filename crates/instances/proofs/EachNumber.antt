@@ -23,6 +23,7 @@ use Rattle.accepted.specs.CallNumbers.{openNumbers, sealNumbers, removeNumbers,
 use Rattle.facts.specs.AllDefinitions.{definitions}
 use Rattle.facts.specs.Facts.{blank, blockAWith, blockA, lowA, octahedron, openA, blockedA, sixA}
 use Rattle.facts.specs.Joint.{jointOf, joint}
+use Rattle.facts.specs.Marked.{loadPoints, gluedUnder, halfGlued, loadOf, load, cappedA, splitA}
 use Rattle.plate.specs.Plate.{platePoints, plateRows, plateOf}
 use Rattle.full_blocks.specs.FullBlocks.{strip, sixRing}
 use Rattle.instances.specs.EachNumber.{noneShown, NumbersCome}
@@ -52,7 +53,7 @@ module _ {X : Type 0} (bytes : X → List ℕ) (answer : X → ℕ) where
 -- each case gets its number, and the table has each number of the list
 
 open-get : T (every (gets (λ block. block) openAnswer) openCases)
-unfolding wrongBlocks openCases blockAWith blockA definitions
+unfolding wrongBlocks openCases blockAWith blockA loadPoints gluedUnder halfGlued cappedA definitions
 open-get = tt
 
 open-all : T (every (has (map (λ case. case .0) openCases)) openNumbers)
@@ -63,15 +64,15 @@ abbrev summarised : List ℕ → ℕ
 summarised block = summaryNumber (summaryGives block)
 
 summary-get : T (every (gets (λ block. block) summarised) openCases)
-unfolding wrongBlocks openCases summaryGives blockAWith blockA definitions
+unfolding wrongBlocks openCases summaryGives blockAWith blockA loadPoints gluedUnder halfGlued cappedA definitions
 summary-get = tt
 
 shown-get : T (every (gets (λ block. block) (λ block. shownAnswer block noneShown)) openCases)
-unfolding wrongBlocks openCases shownAnswer blockAWith blockA definitions
+unfolding wrongBlocks openCases shownAnswer blockAWith blockA loadPoints gluedUnder halfGlued cappedA definitions
 shown-get = tt
 
 seal-get : T (every (gets (λ body. body) (λ body. sealAnswer body blank)) sealCases)
-unfolding wrongBlocks sealCases sealAnswer blockAWith blockA definitions
+unfolding wrongBlocks sealCases sealAnswer blockAWith blockA loadPoints gluedUnder halfGlued cappedA definitions
 seal-get = tt
 
 seal-all : T (every (has (map (λ case. case .0) sealCases)) sealNumbers)
@@ -86,7 +87,7 @@ removed edge = removeAnswer (edge .0) blank (edge .1) (edge .2)
 remove-get : T (every (gets (λ (edge : Edge). edge .0) removed) (edgeCases ++ removeCases))
 unfolding
     wrongBlocks openCases twoRings mixedA edgeCases removeCases blockAWith blockA lowA openA blockedA sixA platePoints plateRows plateOf strip sixRing
-    definitions
+    loadPoints gluedUnder halfGlued cappedA splitA definitions
 remove-get = tt
 
 remove-all : T (every (has (map (λ case. case .0) (edgeCases ++ removeCases))) removeNumbers)
@@ -97,7 +98,9 @@ abbrev flipped32 : Edge → ℕ
 flipped32 edge = flipAnswer (edge .0) blank (edge .1 ∷ edge .2 ∷ [])
 
 flip32-get : T (every (gets (λ (edge : Edge). edge .0) flipped32) (edgeCases ++ flip32Cases))
-unfolding wrongBlocks openCases twoRings mixedA edgeCases flip32Cases blockAWith blockA octahedron openA blockedA sixA definitions
+unfolding
+    wrongBlocks openCases twoRings mixedA edgeCases flip32Cases blockAWith blockA octahedron openA blockedA sixA
+    loadPoints gluedUnder halfGlued cappedA splitA definitions
 flip32-get = tt
 
 flip32-all : T (every (has (map (λ case. case .0) (edgeCases ++ flip32Cases))) (flipNumbers (0 ∷ 0 ∷ [])))
@@ -110,7 +113,7 @@ abbrev flipped23 : Face → ℕ
 flipped23 face = flipAnswer (face .0) blank (face .1 ∷ face .2 ∷ face .3 ∷ [])
 
 flip23-get : T (every (gets (λ (face : Face). face .0) flipped23) flip23Cases)
-unfolding wrongBlocks flip23Cases blockAWith blockA strip jointOf joint definitions
+unfolding wrongBlocks flip23Cases blockAWith blockA strip jointOf joint loadPoints gluedUnder halfGlued loadOf load definitions
 flip23-get = tt
 
 flip23-all : T (every (has (map (λ case. case .0) flip23Cases)) (flipNumbers (0 ∷ 0 ∷ 0 ∷ [])))
@@ -120,7 +123,7 @@ flip23-all = tt
 -- a block with any other count
 
 other-get : T (every (gets (λ block. block) (λ block. flipAnswer block blank [])) otherCases)
-unfolding wrongBlocks otherCases blockAWith blockA definitions
+unfolding wrongBlocks otherCases blockAWith blockA loadPoints gluedUnder halfGlued definitions
 other-get = tt
 
 other-all : T (every (has (map (λ case. case .0) otherCases)) (flipNumbers []))

@@ -18,27 +18,27 @@ regularWith rows = record { points = regular .points; rows = rows }
 
 -- the regular row and the same the other way round: the block opens, and one row counts as inverted, with score 0 and no badness
 pub inverted-row :
-    (openAnswer (bytesOf (regularWith (row 0 1 2 3 ∷ row 1 0 2 3 ∷ []))) ≡ 0)
-    × (summaryGives (bytesOf (regularWith (row 0 1 2 3 ∷ row 1 0 2 3 ∷ [])))
+    (openAnswer (bytesOf 1 (regularWith (row 0 1 2 3 ∷ row 1 0 2 3 ∷ []))) ≡ 0)
+    × (summaryGives (bytesOf 1 (regularWith (row 0 1 2 3 ∷ row 1 0 2 3 ∷ [])))
     ≡ Summed (record { upright = 1; flat = 0; inverted = 1; worst = Worst (record { value = 0 }); octave = Exponent 0 }))
 unfolding regular regularWith summaryGives definitions
 inverted-row = (refl, refl)
 
 -- no rows: both are marks
 pub no-rows :
-    summaryGives (bytesOf nothing) ≡ Summed (record { upright = 0; flat = 0; inverted = 0; worst = NoRows; octave = NoUpright })
+    summaryGives (bytesOf 1 nothing) ≡ Summed (record { upright = 0; flat = 0; inverted = 0; worst = NoRows; octave = NoUpright })
 unfolding nothing summaryGives definitions
 no-rows = refl
 
 -- rows but no upright row: a worst score, and the mark of the octave; an inverted row alone, and a flat one
 pub no-upright-inverted :
-    summaryGives (bytesOf (regularWith (row 1 0 2 3 ∷ [])))
+    summaryGives (bytesOf 1 (regularWith (row 1 0 2 3 ∷ [])))
     ≡ Summed (record { upright = 0; flat = 0; inverted = 1; worst = Worst (record { value = 0 }); octave = NoUpright })
 unfolding regular regularWith summaryGives definitions
 no-upright-inverted = refl
 
 pub no-upright-flat :
-    summaryGives (bytesOf (plateOf (row 0 1 2 3 ∷ [])))
+    summaryGives (bytesOf 1 (plateOf (row 0 1 2 3 ∷ [])))
     ≡ Summed (record { upright = 0; flat = 1; inverted = 0; worst = Worst (record { value = 0 }); octave = NoUpright })
 unfolding platePoints plateOf summaryGives definitions
 no-upright-flat = refl
