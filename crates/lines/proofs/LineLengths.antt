@@ -10,11 +10,10 @@ use lib.ListN.{length, length-append}
 use Rattle.lists.specs.Lists.{every}
 use Rattle.lists.proofs.Tests.{and-l, and-r}
 use Rattle.rows.specs.declared.Row.{Row}
-use Rattle.rows.specs.Rows.{rowBytes}
 use Rattle.summary.specs.declared.Summary.{Summary}
 use Rattle.text.specs.Decimal.{decimal}
 use Rattle.text.proofs.DecimalDigits.{three-digits, small}
-use Rattle.lines.specs.Lines.{text, spaced, lineEnd, ended, line}
+use Rattle.lines.specs.Lines.{text, spaced, lineEnd, ended, line, rowFigures}
 use Rattle.lines.specs.Lines.{scoreField, octaveField, summaryFields, ringLine, rowLine}
 
 line-size : (word : String) (fields : List (List ℕ)) → length (line word fields) ≡ length (text word) + length (ended fields)
@@ -49,14 +48,14 @@ pub ring-size : (ring : List ℕ) → T (every small ring) → length (ringLine 
 unfolding text
 ring-size ring h = omega (arith, line-size "ring" (map decimal ring), numbers-size ring h)
 
--- all bytes of a row
+-- all figures of a row
 abbrev pub smallRow : Row → Bool
-smallRow row = every small (rowBytes row)
+smallRow row = every small (rowFigures row)
 
 -- the line of a row
 row-size : (row : Row) → T (smallRow row) → length (rowLine row) ≤ 24
 unfolding text
-row-size row h = omega (arith, line-size "row" (map decimal (rowBytes row)), numbers-size (rowBytes row) h)
+row-size row h = omega (arith, line-size "row" (map decimal (rowFigures row)), numbers-size (rowFigures row) h)
 
 -- the lines of rows
 pub rows-size : (rows : List Row) → T (every smallRow rows) → length (flatMap rowLine rows) ≤ 24 * length rows

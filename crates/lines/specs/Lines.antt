@@ -8,7 +8,6 @@ use Rattle.score.specs.declared.WorstScore.the-variants.{Worst, NoRows}
 use Rattle.score.specs.declared.Octave.{Octave}
 use Rattle.score.specs.declared.Octave.the-variants.{Exponent, NoUpright}
 use Rattle.rows.specs.declared.Row.{Row}
-use Rattle.rows.specs.Rows.{rowBytes}
 use Rattle.summary.specs.declared.Summary.{Summary}
 use Rattle.text.specs.Decimal.{decimal}
 
@@ -65,6 +64,10 @@ answerLine answer = line "answer" (decimal answer ∷ [])
 abbrev pub ringLine : List ℕ → List ℕ
 ringLine ring = line "ring" (map decimal ring)
 
+-- the numbers of a row that are printed: its four points and the region, never the marks
+abbrev pub rowFigures : Row → List ℕ
+rowFigures row = row .p ∷ row .q ∷ row .r ∷ row .s ∷ row .region ∷ []
+
 -- `row` four numbers and the region of a new row
 abbrev pub rowLine : Row → List ℕ
-rowLine row = line "row" (map decimal (rowBytes row))
+rowLine row = line "row" (map decimal (rowFigures row))

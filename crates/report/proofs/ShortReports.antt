@@ -20,12 +20,12 @@ use Rattle.score.specs.declared.WorstScore.the-variants.{Worst, NoRows}
 use Rattle.score.specs.declared.Octave.the-variants.{Exponent, NoUpright}
 use Rattle.quality.specs.Quality.{isUpright, isFlat, isInverted, worst}
 use Rattle.score.specs.Score.{highestScore, scoreFactor, octaveLimit, score, scoreOf, worstScore, octaveOf, octave, totalBadness}
-use Rattle.rows.specs.Rows.{rowsAt, rowIn}
+use Rattle.rows.specs.Rows.{rowIn}
 use Rattle.rows.specs.RowMeasure.{rowQuality}
-use Rattle.rows.proofs.RowsOfTables.{among-rows}
-use Rattle.layout.specs.Layout.{bodyBytes, byte, rowCount, fieldsOf}
+use Rattle.rows.proofs.RowsOfTables.{among-rows, row-bytes, row-region}
+use Rattle.layout.specs.Layout.{byte, rowCount, fieldsOf}
 use Rattle.layout.specs.Within.{isByte}
-use Rattle.layout.proofs.BytesOfSlices.{all-bytes, byte-most, part-bytes}
+use Rattle.layout.proofs.BytesOfSlices.{all-bytes, byte-below}
 use Rattle.layout.proofs.PatchWritten.{rows-counted}
 use Rattle.block.specs.Opening.{openAnswer}
 use Rattle.block.proofs.RightBlocks.{right-block}
@@ -100,21 +100,27 @@ first-short block output before after =
 three : (n : ℕ) → T (isByte n) → T (small n)
 three n h = lt→ltb n 1000 (omega (arith, ltb→lt n 256 h))
 
-byte-small : (xs : List ℕ) → T (every isByte xs) → (i : ℕ) → T (small (byte xs i))
-byte-small xs h i = lt→ltb (byte xs i) 1000 (omega (arith, byte-most xs h i))
-
 -- the rows of a block of bytes
-row-small : (table : List ℕ) → T (every isByte table) → (i : ℕ) → T (smallRow (rowIn table i))
-unfolding rowIn every
-row-small table bytes i =
-    let at : (j : ℕ) → small (byte table (5 * i + j)) ≡ true = λ j. yes-is _ (byte-small table bytes (5 * i + j)) in
-    rw (at 0, at 1, at 2, at 3, at 4) tt
+row-small : (block : List ℕ) → T (every isByte block) → (i : ℕ) → T (smallRow (rowIn block i))
+unfolding every
+row-small block bytes i =
+    let below = byte-below block bytes in
+    let row = row-bytes block below i in
+    let small-is : (n : ℕ) → n < 256 → small n ≡ true = λ n h. yes-is (small n) (lt→ltb n 1000 (omega arith)) in
+    rw (
+      small-is _ (row .byte-p),
+      small-is _ (row .byte-q),
+      small-is _ (row .byte-r),
+      small-is _ (row .byte-s),
+      small-is _ (row-region block below i),
+    )
+    tt
 
 rows-small : (block : List ℕ) → T (every isByte block) → T (every smallRow (fieldsOf block .rows))
 unfolding fieldsOf
 rows-small block bytes = every-i smallRow (fieldsOf block .rows) λ row k.
     let (i, h, is) = among-rows block (rowCount block) k in
-    rw is (row-small block (part-bytes rowsAt bodyBytes block bytes) i)
+    rw is (row-small block bytes i)
 
 last-short : (output : List ℕ) (n : ℕ) → ((i : ℕ) → Fits w8 (byte output i)) → n ≤ rowCount output
     → length (lastLines n output) ≤ 24 * n

@@ -6,14 +6,12 @@ ghost use Rattle.block.specs.Opening.{openAnswer};
 ghost use Rattle.lines.specs.Lines.{answerLine};
 ghost use Rattle.text.specs.Steps.{held, Behind, Whole};
 ghost use Rattle.report.specs.Steps.{firstLines, lastLines, rowsOf, removalLines, flipLines, Written, Printable};
-use layout::BODY_BYTES;
 use lines::put_answer;
 use lines::put_ring;
 use lines::put_rows;
 use lines::put_summary;
 use patch::Summarised;
 use ring::Ring;
-use rows::ROWS_AT;
 use text::Text;
 use text::no_text;
 use text::put_word;
@@ -48,7 +46,7 @@ fn put_last_rows(text: Text, output: &[u8], n: usize) -> Text
     ensures { λ r. ⌜ Behind text (lastLines n (now (output .entry))) r ⌝ }
 {
     let rows = output[2] as usize;
-    put_rows(text, &output[ROWS_AT..BODY_BYTES], rows - n, rows)
+    put_rows(text, output, rows - n, rows)
 }
 
 // The lines of a removal that is done: there are two new rows for each of the m - 2 triangles.

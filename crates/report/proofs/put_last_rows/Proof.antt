@@ -1,8 +1,6 @@
 -- `put_last_rows` reads how many rows there are; a block that opens has the bytes of them all.
 use native.Mathlib.Omega.{arith}
-use Rattle.rows.specs.Rows.{rowsAt}
-use Rattle.layout.specs.Layout.{bodyBytes, fieldsOf}
-use Rattle.layout.proofs.BlockParts.{part-length}
+use Rattle.layout.specs.Layout.{fieldsOf}
 use Rattle.block.proofs.RightBlocks.{right-block}
 use borrow.Author.Needs.{needs}
 use Rattle.report.proofs.put_last_rows.Statement.{statement}
@@ -17,20 +15,11 @@ cast-rows c = omega (arith, c .shared-slice-known2 .given 2)
 sub-put-rows : tie.Need-sub-put-rows
 sub-put-rows c = search needs
 
-part-put-rows-start : tie.Need-part-put-rows-start
-part-put-rows-start c = search needs
-
-part-put-rows-end : tie.Need-part-put-rows-end
-part-put-rows-end c = let start = c .before .before in omega (arith, right-block (start .args .output .now) (start .pre .0) .size)
-
-sub-put-rows-2 : tie.Need-sub-put-rows-2
-sub-put-rows-2 c = search needs
-
 put-rows-requires : tie.Need-put-rows-requires
 put-rows-requires c κs =
-    let start = c .before .before .before in
+    let start = c .before .before in
     let right = right-block (start .args .output .now) (start .pre .0) in
-    (omega arith, omega (arith, right .body .few-rows, part-length rowsAt bodyBytes (start .args .output .now) (omega (arith, right .size))))
+    (omega arith, omega (arith, right .body .few-rows, right .size))
 
 returns : tie.Need-returns
 unfolding fieldsOf
@@ -43,8 +32,5 @@ put-last-rows-spec =
     shared-slice-read-rows
     cast-rows
     sub-put-rows
-    part-put-rows-start
-    part-put-rows-end
-    sub-put-rows-2
     put-rows-requires
     returns)
