@@ -112,7 +112,8 @@ module _ (block out other : List ℕ) (x y z : ℕ) (done : flipAnswer block out
     back-rows =
         let made = flip32-accepted between other (pair .a) (pair .b) back-answer in
         let only = three-chosen site (sound-site between (pair .a) (pair .b) sound) three (cut side side) the-way in
-        subst (λ rows. SameTetrahedra rows (patch .rows)) (sym (made .rows ∙ ap (λ (t : Tri). site .kept ++ dressed (site .removed) (site .kept) (newRows site 1 t)) only))
+        let table : Tri → List Row = λ t. site .kept ++ dressed (site .removed) (site .kept) (newRows site 1 t) in
+        subst (λ rows. SameTetrahedra rows (patch .rows)) (sym (made .rows ∙ ap table only))
         (rw fields-between (back-table patch face f rule (flipped .rule) no-row agrees (flipped .marks-stay) one))
 
 -- ---- the apexes by words, in either order

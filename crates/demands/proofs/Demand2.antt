@@ -33,7 +33,7 @@ use Rattle.block.proofs.RoundTrip.{written-read, opens-written, seal-right, sea
 use Rattle.display.specs.Display.{shownAnswer, shownOf, shownElements}
 use Rattle.display.proofs.ShownRows.{shown-taken, shown-opens, shown-writes}
 use Rattle.ring.specs.Ring.{Site, siteOf}
-use Rattle.triangulation.specs.Triangulation.{side, cut, newRows}
+use Rattle.triangulation.specs.Triangulation.{newRows}
 use Rattle.calls.specs.Removing.{removeAnswer, removeGives, removeBytes}
 use Rattle.calls.specs.Flipping.{pairOf, patchAfter23, flipAnswer, flipBytes}
 use Rattle.calls.proofs.CallTests.{each-count, never-done, flips-32, flips-23}
