@@ -1,7 +1,7 @@
 -- A 3-2 flip after a 2-3 flip is done and brings back the same two tetrahedra, whichever way round the apexes are named.
 use Prim.Native.Nat.{ℕ}
 use mathlib.Core.Bool.{true, false, not}
-use mathlib.Core.List.{List, [], _∷_}
+use mathlib.Core.List.{List, [], _∷_, _++_}
 use mathlib.Core.Path.{_≡_, sym, ap, _∙_, subst}
 use native.Mathlib.Omega.{arith}
 use borrow.Author.Tests.{eq-eqb}
@@ -13,14 +13,15 @@ use Rattle.rows.specs.Rows.{holdsEdge}
 use Rattle.rows.specs.Regions.{mixed, OneRegion}
 use Rattle.rows.proofs.RegionsOfRows.{one-region, not-mixed}
 use Rattle.rows.specs.Tetrahedra.{SameTetrahedra}
+use Rattle.marking.specs.Marking.{agree, dressed}
 use Rattle.layout.specs.Layout.{Patch, blockBytes, fieldsOf}
 use Rattle.answers.specs.Answers.{firstRefusal}
 use Rattle.answers.proofs.Refusals.{number-of}
-use Rattle.block.proofs.RightBlocks.{opens}
+use Rattle.block.proofs.RightBlocks.{right-block, opens}
 use Rattle.ring.specs.Ring.{Site, siteOf, m}
-use Rattle.triangulation.specs.Triangulation.{side, cut, tableAfter}
+use Rattle.triangulation.specs.Triangulation.{Tri, side, cut, newRows}
 use Rattle.triangulation.proofs.WholeRing.{RingWay}
-use Rattle.calls.specs.Removing.{Sound}
+use Rattle.calls.specs.Removing.{markLost, Sound}
 use Rattle.calls.specs.Flipping.{flip32Tests, Pair, pairOf, patchAfter23, flipAnswer, flipBytes}
 use Rattle.calls.proofs.CallTests.{flips-23, flip32-left, Flips23}
 use Rattle.calls.proofs.SoundEdges.{opens-rule, sound-site}
@@ -29,7 +30,7 @@ use Rattle.tables.proofs.FacingRows.{Facing}
 use Rattle.tables.proofs.ApexesByWords.{TwoApexes, two-apexes}
 use Rattle.tables.proofs.RingOfThree.{three-chosen}
 use Rattle.tables.proofs.RingReplaced.{way-there}
-use Rattle.tables.proofs.FlippedBack.{back-passes, back-closed, back-three, back-one, back-table, back-way}
+use Rattle.tables.proofs.FlippedBack.{back-passes, back-closed, back-three, back-one, back-unmarked, back-table, back-way}
 use Rattle.accepted.proofs.AcceptedBytes.{patch-is}
 use Rattle.accepted.proofs.AcceptedCalls.{flips-facing, flip23-accepted, flip32-accepted, in-order, edge-swap}
 use Rattle.demands.specs.Kernels.{ours}
@@ -61,6 +62,9 @@ module _ (block out other : List ℕ) (x y z : ℕ) (done : flipAnswer block out
   rule : KeepsRule patch (patch .rows)
   rule = opens-rule block (flipped .opens)
 
+  agrees : T (agree (patch .rows))
+  agrees = right-block block (flipped .opens) .body .agrees
+
   fields-between : fieldsOf between ≡ patchAfter23 patch face
   unfolding patchAfter23 pairOf
   fields-between = let made = flip23-accepted block out x y z done in patch-is (fieldsOf between) (made .points) (made .rows)
@@ -89,23 +93,28 @@ module _ (block out other : List ℕ) (x y z : ℕ) (done : flipAnswer block out
     one = one-region (pair .removed) (flipped .one-region)
 
     the-way : RingWay site (cut side side)
-    the-way = rw fields-between (back-way patch face f rule (flipped .rule) no-row one)
+    the-way = rw fields-between (back-way patch face f rule (flipped .rule) no-row agrees (flipped .marks-stay) one)
+
+    -- and mark no face that goes
+    unmarked : markLost site ≡ false
+    unmarked = rw fields-between (back-unmarked patch face f rule (flipped .rule) no-row agrees (flipped .marks-stay))
 
     -- answer 0
     back-answer : flipAnswer between other ((pair .a) ∷ (pair .b) ∷ []) ≡ 0
     unfolding flip32Tests firstRefusal
     back-answer =
         flip32-left between other (pair .a) (pair .b) sound closed size
-        ∙ rw (eq-eqb (m site) 3 three, unmixed, way-there site (omega (arith, three)) (cut side side) the-way)
+        ∙ rw (eq-eqb (m site) 3 three, unmixed, unmarked, way-there site (omega (arith, three)) (cut side side) the-way)
 
     -- and the same tetrahedra
     back-rows : SameTetrahedra (fieldsOf (flipBytes between other ((pair .a) ∷ (pair .b) ∷ [])) .rows) (patch .rows)
-    unfolding tableAfter siteOf
+    unfolding siteOf
     back-rows =
         let made = flip32-accepted between other (pair .a) (pair .b) back-answer in
         let only = three-chosen site (sound-site between (pair .a) (pair .b) sound) three (cut side side) the-way in
-        subst (λ rows. SameTetrahedra rows (patch .rows)) (sym (made .rows ∙ ap (tableAfter site) only))
-        (rw fields-between (back-table patch face f rule (flipped .rule) no-row one))
+        let table : Tri → List Row = λ t. site .kept ++ dressed (site .removed) (site .kept) (newRows site 1 t) in
+        subst (λ rows. SameTetrahedra rows (patch .rows)) (sym (made .rows ∙ ap table only))
+        (rw fields-between (back-table patch face f rule (flipped .rule) no-row agrees (flipped .marks-stay) one))
 
 -- ---- the apexes by words, in either order
 

@@ -1,17 +1,21 @@
 -- Demand 2: what opening and the summary give, the layout there and back, and what each call that is done leaves.
-use Prim.Native.Nat.{ℕ, min, max}
+use Prim.Native.Nat.{ℕ, _+_, _-_, _*_, _<_, min, max}
 use mathlib.Core.Bool.{true, _||_}
-use mathlib.Core.List.{List, [], _∷_}
+use mathlib.Core.List.{List, [], _∷_, map}
 use mathlib.Core.Path.{_≡_, sym, ap, _∙_, subst}
 use native.Mathlib.Omega.{arith}
 use borrow.Author.Tests.{eqb-true, eq-eqb, not-false}
 use lib.Ieee.{Float}
-use lib.ListN.{length, getD}
-use Rattle.lists.specs.Lists.{every}
+use lib.ListN.{length, getD, drop, List·getD-append}
+use lib.Seq.{getD-take}
+use Rattle.lists.specs.Lists.{every, numbersFrom}
 use Rattle.lists.proofs.Tests.{neither-is}
-use Rattle.rows.specs.Rows.{holdsEdge, holdsFace}
+use Rattle.lists.proofs.Images.{map-same}
+use Rattle.lists.proofs.Numbers.{numbers-e}
+use Rattle.rows.specs.Rows.{version, rowsAt, rowSize, storedRow, rowIn, rowsIn, holdsEdge, holdsFace}
 use Rattle.rows.proofs.RegionsOfRows.{one-region}
-use Rattle.layout.specs.Layout.{blockBytes, bodyBytes, maxRows, fieldsOf}
+use Rattle.marking.specs.Marking.{dressed}
+use Rattle.layout.specs.Layout.{blockBytes, bodyBytes, maxRows, rowCount, tableOf, fieldsOf, bodyOf, sumBytes}
 use Rattle.answers.specs.declared.Answer.{Answer}
 use Rattle.answers.specs.declared.Answer.the-variants.{Done as Fine}
 use Rattle.body.specs.Body.{RightBody}
@@ -24,7 +28,7 @@ use Rattle.block.proofs.OpenedAndSealed.{open-fields}
 use Rattle.answers.proofs.ByNumber.{testOf, passes}
 use Rattle.body.proofs.RightBodies.{body-passes}
 use Rattle.block.proofs.RightBlocks.{right-block, opens}
-use Rattle.layout.proofs.PatchWritten.{read-written}
+use Rattle.layout.proofs.PatchWritten.{version-at, read-written}
 use Rattle.block.proofs.RoundTrip.{written-read, opens-written, seal-right, seal-opens}
 use Rattle.display.specs.Display.{shownAnswer, shownOf, shownElements}
 use Rattle.display.proofs.ShownRows.{shown-taken, shown-opens, shown-writes}
@@ -36,7 +40,7 @@ use Rattle.calls.proofs.CallTests.{each-count, never-done, flips-32, flips-23}
 use Rattle.calls.proofs.NumbersRead.{three-read}
 use Rattle.calls.proofs.SoundEdges.{sound-site}
 use Rattle.tables.specs.RoundAnEdge.{Round}
-use Rattle.tables.specs.FlipRows.{new23}
+use Rattle.tables.specs.FlipRows.{made23}
 use Rattle.tables.proofs.RingReplaced.{way-found}
 use Rattle.tables.proofs.FacingRows.{face-apart}
 use Rattle.tables.proofs.RingOfThree.{across, three-chosen}
@@ -50,13 +54,26 @@ use Rattle.demands.specs.Kernels.{ours, asPatch}
 use Rattle.demands.specs.FlipWords.{Faced}
 use Rattle.demands.specs.Demands.{Sealed, RemovalDone, Flip32Done, Flip23Done, FlipDone, Demand2}
 use Rattle.demands.proofs.SummaryGiven.{summary-of-block}
+use Rattle.demands.proofs.MarksByWords.{marks-stay-stated, face-stated}
 use Rattle.demands.proofs.PremisesMet.{sound-round}
 use Rattle.demands.proofs.RemovalWords.{only-0}
 
+-- a row of the table, read off the bytes that opening gives
+table-row : (block : List ℕ) (i : ℕ) → i < maxRows → storedRow (version block) (tableOf block) i ≡ rowIn block i
+unfolding rowIn storedRow
+table-row block i h =
+    let at : (j : ℕ) → j < rowSize → getD (tableOf block) (rowSize * i + j) 0 ≡ getD (drop rowsAt block) (rowSize * i + j) 0 =
+    λ j l. getD-take (bodyBytes - rowsAt) (drop rowsAt block) (rowSize * i + j) 0 (omega arith) in
+    rw (at 0 (omega arith), at 1 (omega arith), at 2 (omega arith), at 3 (omega arith), at 4 (omega arith))
+
 -- the fields that opening gives are the block's, as a patch
 patch-read : (block : List ℕ) → RightBlock block → asPatch (openGives block .fields) ≡ fieldsOf block
-unfolding fieldsOf
-patch-read block right = rw (open-fields block (opens block right))
+unfolding fieldsOf rowsIn
+patch-read block right =
+    let rows : map (storedRow (version block) (tableOf block)) (numbersFrom 0 (rowCount block)) ≡ map (rowIn block) (numbersFrom 0 (rowCount block)) =
+    map-same (storedRow (version block) (tableOf block)) (rowIn block) (numbersFrom 0 (rowCount block)) (λ i m.
+    table-row block i (omega (arith, numbers-e 0 (rowCount block) m .1, right .body .few-rows))) in
+    rw (open-fields block (opens block right), rows)
 
 module _ (block out : List ℕ) (e f : ℕ) where
   abbrev its : Site
@@ -95,8 +112,9 @@ module _ (block out : List ℕ) (e f : ℕ) where
               (subst (λ c. Round rows (min e f) (max e f) c (its .ring)) (r .closed) (sound-round block e f (r .sound)));
         };
         one-region = one-region (its .removed) (r .one-region);
+        no-marked-face-goes = marks-stay-stated (fieldsOf block) e f (r .marks-stay);
         accepted = subst (Accepted block (flipBytes block out (e ∷ f ∷ [])) (holdsEdge (min e f) (max e f)))
-            (ap (newRows its 1) only ∙ across its u v w ring) (flip32-accepted block out e f h);
+            (ap (dressed (its .removed) (its .kept)) (ap (newRows its 1) only ∙ across its u v w ring)) (flip32-accepted block out e f h);
       }
 
 -- the face of a 2-3 flip that is done, by words
@@ -124,10 +142,11 @@ flip23-done block out x y z h =
         smaller = f .less;
         read = read;
         one-region = one-region (pair .removed) (r .one-region);
+        unmarked = face-stated (fieldsOf block) face (r .marks-stay);
         room = omega (arith, one-more (fieldsOf block) face (two-apexes (fieldsOf block) x y z (pair .a) (pair .b) (right .body .rule) apexes), r .room);
       };
       accepted = subst (Accepted block (flipBytes block out face) (holdsFace face))
-          {y = new23 (fieldsOf block .rows) face (pair .a) (pair .b) u v w}
+          {y = made23 (fieldsOf block .rows) face (pair .a) (pair .b) u v w}
           (new-is (fieldsOf block) x y z (pair .a) (pair .b) (right .body .rule) apexes (f .less) u v w read) (flip23-accepted block out x y z h);
     }
 
@@ -151,6 +170,11 @@ seal-taken body out size right room =
     goes-on 1 (notBody body || notBlock out) (bodyTests body) (rw (eq-eqb (length body) bodyBytes size, eq-eqb (length out) blockBytes room))
     ∙ body-passes body right
 
+-- the sealed block has the body's version
+sealed-version : (body out : List ℕ) → length body ≡ bodyBytes → sealAnswer body out ≡ 0 → version (sealBytes body out) ≡ version body
+unfolding sealBytes
+sealed-version body out size h = rw h (List·getD-append body (sumBytes body) 0 0 (omega (arith, size)))
+
 -- and what is sealed was one, and went into an output block of the right length
 seal-done : (body out : List ℕ) → sealAnswer body out ≡ 0 → Sealed body out (sealBytes body out)
 unfolding sealAnswer bodyTests testOf every
@@ -163,6 +187,7 @@ seal-done body out h =
       right-body = right-one;
       right-length = eqb-true _ _ (not-false _ is-block);
       right = right-block _ o;
+      same-version = sealed-version body out size h;
       same = same;
     }
 
@@ -172,8 +197,9 @@ demand-2 = record {
   read-fields = λ block right. open-fields block (opens block right);
   read-patch = patch-read;
   read-right = λ block h. right-block block (sym (open-number block) ∙ h);
-  layout = λ block right. written-read block (opens block right);
-  layout-back = λ patch kept. (right-block _ (opens-written patch kept), read-written patch (kept .within));
+  layout = λ block are right. written-read block are (opens block right);
+  layout-back = λ v patch kept.
+      (right-block _ (opens-written v patch kept), version-at v patch (sumBytes (bodyOf v patch)), read-written v patch (kept .within));
   summary = summary-of-block;
   summary-right = λ block h. right-block block (sym (summary-number block) ∙ h);
   shown = shown-done;

@@ -18,21 +18,22 @@ use Rattle.layout.specs.Layout.{Patch, fieldsOf}
 use Rattle.answers.specs.Answers.{Tests, firstRefusal}
 use Rattle.answers.proofs.ByNumber.{testOf, before}
 use Rattle.ring.specs.Ring.{Site, siteOf, m}
-use Rattle.triangulation.specs.Triangulation.{Tri, triangles, tableAfter}
+use Rattle.triangulation.specs.Triangulation.{Tri, triangles, newRows}
 use Rattle.triangulation.specs.Best.{worstOfWay, ringWays, chosen}
 use Rattle.triangulation.proofs.WorstOfWays.{row-fraction, worst-over}
 use Rattle.triangulation.proofs.WholeRing.{RingWay, BestWay, way-listed, listed-way, worst-row}
-use Rattle.calls.specs.Removing.{worstNow, noWay, noneBetter, patchAfter, removalTests, removeAnswer, removeBytes}
+use Rattle.calls.specs.Removing.{worstNow, markLost, noWay, noneBetter, patchAfter, removalTests, removeAnswer, removeBytes}
 use Rattle.calls.specs.Removing.{Sound}
 use Rattle.tables.proofs.RingReplaced.{way-there}
 use Rattle.accepted.proofs.ChosenWay.{site-chosen, some-way}
 use Rattle.accepted.proofs.AfterRemoval.{fields-after}
 use Rattle.demands.specs.Kernels.{ours}
-use Rattle.demands.specs.TriangleSets.{tableBy, NoneBetter}
+use Rattle.demands.specs.TriangleSets.{tableMade, NoneBetter}
 use Rattle.demands.specs.Premises.{edgeAt, Premises}
 use Rattle.demands.specs.Demands.{Demand3}
 use Rattle.demands.proofs.Demand1.{numbered}
-use Rattle.demands.proofs.WaysAndTrees.{NoTreeBetter, tree-way, way-tree, tree-table, none-better, best-of}
+use Rattle.demands.proofs.WaysAndTrees.{NoTreeBetter, tree-way, way-tree, none-better, best-of}
+use Rattle.demands.proofs.MarksByWords.{marks-stay-tested}
 use Rattle.answers.proofs.ToldByNumber.{past, once, exactly, goes-past}
 use Rattle.demands.proofs.EdgeFound.{sited, ringed-sound, left, length-right, ringed-flat, ringed-room}
 
@@ -88,6 +89,9 @@ module _ (block out : List ℕ) (e f : ℕ) (closed : Bool) (vs : List ℕ) (giv
       let (t, w) = some-tree in
       way-there its three t w
 
+  not-23 : markLost its ≡ false
+  not-23 = subst (λ (s : Site). markLost s ≡ false) is (marks-stay-tested (fieldsOf block) e f (given .no-marked-face-goes))
+
   abbrev tests : Tests
   tests = removalTests its
 
@@ -102,6 +106,7 @@ module _ (block out : List ℕ) (e f : ℕ) (closed : Bool) (vs : List ℕ) (giv
         length-right block out e f closed vs (given .ringed),
         ringed-flat block out e f closed vs (given .ringed) (given .flat),
         not-mixed (its .removed) (given .one-region),
+        not-23,
         ringed-room block out e f closed vs (given .ringed) (given .flat) (given .room),
         not-15,
       )
@@ -123,12 +128,10 @@ module _ (block out : List ℕ) (e f : ℕ) (closed : Bool) (vs : List ℕ) (giv
       left-one
       ∙ goes-past 16 tests tt front-16 (no-is (noneBetter its) (not-T (noneBetter its) (λ k. h (from (none→ its three k)))))
 
-  rows-written : removeAnswer block out e f ≡ 0 → fieldsOf (removeBytes block out e f) .rows ≡ tableBy its (triangles 1 (chosen its))
-  unfolding patchAfter
+  rows-written : removeAnswer block out e f ≡ 0 → fieldsOf (removeBytes block out e f) .rows ≡ tableMade its (triangles 1 (chosen its))
+  unfolding patchAfter newRows
   rows-written h =
-      ap (λ (patch : Patch). patch .rows) (fields-after block out e f h)
-      ∙ ap (λ (s : Site). tableAfter s (chosen s)) is
-      ∙ sym (tree-table its (chosen its))
+      ap (λ (patch : Patch). patch .rows) (fields-after block out e f h) ∙ ap (λ (s : Site). tableMade s (triangles 1 (chosen s))) is
 
 pub demand-3 : Demand3 ours
 unfolding ours

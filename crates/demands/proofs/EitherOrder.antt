@@ -1,6 +1,6 @@
 -- A removal and a flip do not depend on the order of the ends, nor a flip on the order of the three numbers of a face.
 use Prim.Native.Nat.{ℕ, zero, suc, _<_, max}
-use mathlib.Core.Bool.{Bool, not}
+use mathlib.Core.Bool.{Bool, not, _&&_}
 use mathlib.Core.List.{List, [], _∷_, map, foldr, List·Memᴰ, List·Memᴰ·head, List·Memᴰ·tail, List·Memᴰ·not-nil}
 use mathlib.Core.Path.{_≡_, refl, sym, ap, _∙_, fun-ext}
 use native.Mathlib.Omega.{arith}
@@ -8,11 +8,12 @@ use lib.Dec.{T, eqb, ltb}
 use lib.ListN.{length}
 use Rattle.lists.specs.Lists.{every, those, firstOr, has, different}
 use Rattle.lists.proofs.Tests.{same-test}
-use Rattle.lists.proofs.Lists.{every-at, every-i}
+use Rattle.lists.proofs.Lists.{every-at, every-i, any-same}
 use Rattle.lists.proofs.Numbers.{has-i, has-e}
 use Rattle.lists.proofs.Places.{in-cases}
 use Rattle.rows.specs.declared.Row.{Row}
 use Rattle.rows.specs.Rows.{numbers, holds, holdsFace, noRow}
+use Rattle.marking.specs.Marking.{markedFaces, marksOver}
 use Rattle.layout.specs.Layout.{Patch, fieldsOf}
 use Rattle.ring.specs.Ring.{Site, siteOf, numbersWrong, ringsAlone, orChains, edgeTests}
 use Rattle.walk.specs.Walk.{smallest}
@@ -108,9 +109,18 @@ module _ (f g : List ℕ) (same : SameNumbers f g) where
   unfolding patchAfter23 threeRows
   patch-over patch = rw (pair-over patch, smallest-over)
 
+  -- a row marks a face over the same numbers
+  marked-over : (row : Row) → marksOver f row ≡ marksOver g row
+  unfolding marksOver
+  marked-over row =
+      any-same (λ h. every (has (h .0 .0 ∷ h .0 .1 ∷ h .0 .2 ∷ [])) f && h .1) (λ h. every (has (h .0 .0 ∷ h .0 .1 ∷ h .0 .2 ∷ [])) g && h .1)
+      (markedFaces row) (λ h m. ap (λ c. c && h .1) (every-over (has (h .0 .0 ∷ h .0 .1 ∷ h .0 .2 ∷ []))))
+
   tests-over : (patch : Patch) → flip23Tests patch f ≡ flip23Tests patch g
   unfolding flip23Tests
-  tests-over patch = rw (wrong-over (length (patch .points)), pair-over patch, patch-over patch)
+  tests-over patch =
+      let goes = any-same (marksOver f) (marksOver g) (pairOf patch g .removed) (λ row m. marked-over row) in
+      rw (wrong-over (length (patch .points)), pair-over patch, patch-over patch, goes)
 
 -- exchanging the first two, and turning round: these give all six orders
 

@@ -3,7 +3,8 @@ use Prim.Native.Nat.{ℕ, min, max}
 use mathlib.Core.Bool.{false, _&&_}
 use mathlib.Core.List.{List, [], _∷_}
 use mathlib.Core.Path.{_≡_, sym, ap, _∙_, subst}
-use Rattle.lists.specs.Lists.{every, any, those}
+use lib.Dec.{T}
+use Rattle.lists.specs.Lists.{every, any}
 use Rattle.lists.proofs.Lists.{any-i, any-e, those-same}
 use Rattle.lists.proofs.Tests.{and-true, same-test}
 use Rattle.rows.specs.declared.Row.{Row}
@@ -16,7 +17,6 @@ use Rattle.calls.specs.Removing.{markLost}
 use Rattle.calls.specs.Flipping.{pairOf}
 use Rattle.kept_marks.proofs.NumbersOfFaces.{over-e, over-i}
 use Rattle.demands.specs.Premises.{NoneMarked, MarksStay}
-use lib.Dec.{T}
 
 -- of every row
 all-stated : (ns : List ℕ) (rows : List Row) → any (marksOver ns) rows ≡ false → NoneMarked rows ns
