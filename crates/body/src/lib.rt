@@ -14,8 +14,8 @@ use layout::MAX_POINTS;
 use layout::MAX_ROWS;
 use layout::POINTS_AT;
 use layout::ZEROS_AT;
-use rows::ROWS_AT;
 use rows::ROW_SIZE;
+use rows::ROWS_AT;
 use rows::VERSION_AT;
 use volume::POINT_SIZE;
 

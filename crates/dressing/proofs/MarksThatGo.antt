@@ -56,7 +56,7 @@ pub goes-among : (ns : List ℕ) (rows : List Row) → any (marksOver ns) rows �
 goes-among ns rows =
     same-test (any (marksOver ns) rows) (markGoes ns (those (holdsFace ns) rows))
     (λ h. let (row, m, k) = any-e (marksOver ns) rows h in
-      any-i (marksOver ns) (those (holdsFace ns) rows) (those-i (holdsFace ns) rows m (over-holds ns row k)) k)
+    any-i (marksOver ns) (those (holdsFace ns) rows) (those-i (holdsFace ns) rows m (over-holds ns row k)) k)
     (λ h. let (row, m, k) = any-e (marksOver ns) (those (holdsFace ns) rows) h in any-i (marksOver ns) rows (those-e (holdsFace ns) rows m .0) k)
 
 -- an edge, given with its second end twice
@@ -69,8 +69,8 @@ pub edge-goes-among : (a b : ℕ) (rows : List Row) → any (marksOver (a ∷ b 
 unfolding marksOver every
 edge-goes-among a b rows =
     any-same (marksOver (a ∷ b ∷ b ∷ [])) (marksOver (a ∷ b ∷ [])) rows (λ row m.
-      any-same (λ g. every (has (g .0 .0 ∷ g .0 .1 ∷ g .0 .2 ∷ [])) (a ∷ b ∷ b ∷ []) && g .1)
-      (λ g. every (has (g .0 .0 ∷ g .0 .1 ∷ g .0 .2 ∷ [])) (a ∷ b ∷ []) && g .1) (markedFaces row)
-      (λ g k. ap (λ c. c && g .1) (twice (has (g .0 .0 ∷ g .0 .1 ∷ g .0 .2 ∷ []) a) (has (g .0 .0 ∷ g .0 .1 ∷ g .0 .2 ∷ []) b))))
+    any-same (λ g. every (has (g .0 .0 ∷ g .0 .1 ∷ g .0 .2 ∷ [])) (a ∷ b ∷ b ∷ []) && g .1)
+    (λ g. every (has (g .0 .0 ∷ g .0 .1 ∷ g .0 .2 ∷ [])) (a ∷ b ∷ []) && g .1) (markedFaces row)
+    (λ g k. ap (λ c. c && g .1) (twice (has (g .0 .0 ∷ g .0 .1 ∷ g .0 .2 ∷ []) a) (has (g .0 .0 ∷ g .0 .1 ∷ g .0 .2 ∷ []) b))))
     ∙ goes-among (a ∷ b ∷ []) rows
     ∙ ap (markGoes (a ∷ b ∷ [])) (those-same (holdsFace (a ∷ b ∷ [])) (holdsEdge a b) (λ row. ap (λ c. holds row a && c) (and-true (holds row b))) rows)

@@ -188,5 +188,5 @@ module _ (v : ℕ) (removed kept new : List Row) (fit : (row : Row) → List·Me
   room-dressed =
       every-both (roomy v) kept (dressed removed kept new) (every-i (roomy v) kept stay)
       (every-i (roomy v) (dressed removed kept new) (λ row m.
-        let (plain, k, is) = Memᴰ·of-map (dressBy (newMark removed kept)) new m in
-        subst (λ row. T (roomy v row)) is (dressed-roomy plain k)))
+      let (plain, k, is) = Memᴰ·of-map (dressBy (newMark removed kept)) new m in
+      subst (λ row. T (roomy v row)) is (dressed-roomy plain k)))

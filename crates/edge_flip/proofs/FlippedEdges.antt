@@ -212,8 +212,13 @@ module _ (block out : List ℕ) (e f : ℕ) where
             few =
                 let new = newRows site 1 (chosen site) in
                 let made = length-map new (dressBy (newMark (site .removed) (site .kept))) in
-                omega (arith, chosen-rows site sound (omega (arith, three-points)) some-way, room, length-append (site .kept) (rowsMade site),
-                  length-append (site .kept) new)
+                omega (
+                  arith,
+                  chosen-rows site sound (omega (arith, three-points)) some-way,
+                  room,
+                  length-append (site .kept) (rowsMade site),
+                  length-append (site .kept) new,
+                )
 
             module _ (n : ℕ) (n-is : n ≡ length (patchAfter its .rows)) where
               own-number : n ≡ length after

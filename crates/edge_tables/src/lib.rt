@@ -29,13 +29,7 @@ pub fn ring_at(block: &[u8], e: usize, f: usize) -> Ring
     if block[1] as usize <= f {
         return no_ring();
     }
-    let found = ring::find(
-        block,
-        block[2] as usize,
-        e as u8,
-        f as u8,
-        false,
-    );
+    let found = ring::find(block, block[2] as usize, e as u8, f as u8, false);
     found.ring
 }
 

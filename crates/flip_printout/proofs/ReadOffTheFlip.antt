@@ -5,7 +5,8 @@ use mathlib.Core.List.{List, append-assoc, append-nil}
 use mathlib.Core.Path.{_≡_, refl}
 use native.Mathlib.Omega.{arith}
 use borrow.Author.Tests.{ne-eqb}
-use lib.ListN.{length, replicate}
+use lib.ListN.{length, replicate, length-map}
+use Rattle.marking.specs.Marking.{dressBy, newMark}
 use Rattle.layout.specs.Layout.{blockBytes, fieldsOf}
 use Rattle.block.specs.Opening.{openAnswer}
 use Rattle.calls.specs.Flipping.{threeRows, rowsFlipped, flipAnswer, flipBytes}
@@ -15,6 +16,9 @@ use Rattle.lines.specs.Lines.{answerLine}
 use Rattle.report.specs.Steps.{flipLines, Written}
 use Rattle.report.proofs.NewRows.{new-last, both-open, ring-rows}
 use Rattle.flip_printout.specs.FlipPrintout.{flipPrinted}
+use Rattle.ring.specs.Ring.{siteOf}
+use Rattle.triangulation.specs.Triangulation.{newRows}
+use Rattle.triangulation.specs.Best.{chosen}
 
 -- What a flip that is done says: the block opens, and there are two numbers and two new rows, or three.
 pub record Flips (block numbers : List ℕ) : Type 0 where
@@ -29,6 +33,8 @@ flips block out =
     (λ numbers. flipAnswer block out numbers ≡ 0 → Flips block numbers)
     (λ e f h.
     let r = flips-32 block out e f h in
+    let site = siteOf (fieldsOf block) e f in
+    let made = length-map (newRows site 1 (chosen site)) (dressBy (newMark (site .removed) (site .kept))) in
     let two = ring-rows block e f (r .sound) (omega (arith, r .three)) (r .way) in
     record { opens = r .sound .opens; new = omega (arith, two, r .three); few = omega arith })
     (λ x y z h. record { opens = flips-23 block out x y z h .opens; new = refl; few = omega arith })

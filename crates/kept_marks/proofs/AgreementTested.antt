@@ -5,7 +5,7 @@ use mathlib.Core.List.{List, List·Memᴰ, flatMap}
 use mathlib.Core.Path.{_≡_, refl, sym, _∙_, subst}
 use lib.Dec.{T}
 use Rattle.lists.specs.Lists.{every}
-use Rattle.lists.proofs.Tests.{same-test}
+use Rattle.lists.proofs.Tests.{or-r, same-test}
 use Rattle.lists.proofs.Lists.{every-at, every-i}
 use Rattle.lists.proofs.Images.{flatMap-i, flatMap-e}
 use Rattle.rows.specs.declared.Row.{Row}
@@ -17,13 +17,13 @@ use Rattle.kept_marks.proofs.MarksOfRows.{marks-e, marks-i, uses-marked
 
 -- a face and another, the same the other way round, are both marked or neither is
 meets : Face × Bool → Face × Bool → Bool
-meets g h = not (sameFace (reversed (g .0)) (h .0)) || Bool·beq (g .1) (h .1)
+meets g h = Bool·beq (g .1) (h .1) || not (sameFace (reversed (g .0)) (h .0))
 
 meets-e : (g h : Face × Bool) → T (meets g h) → Turned (reversed (g .0)) (h .0) → g .1 ≡ h .1
 unfolding meets
 meets-e g h k e = go (sameFace (reversed (g .0)) (h .0)) (turned-same _ _ e) (g .1) (h .1) k
   where
-    go : (a : Bool) → T a → (b c : Bool) → T (not a || Bool·beq b c) → b ≡ c
+    go : (a : Bool) → T a → (b c : Bool) → T (Bool·beq b c || not a) → b ≡ c
     go true h true true k = refl
     go true h true false k = absurd k
     go true h false true k = absurd k
@@ -34,8 +34,8 @@ meets-i : (g h : Face × Bool) → (Turned (reversed (g .0)) (h .0) → g .1 ≡
 unfolding meets
 meets-i g h k = go (sameFace (reversed (g .0)) (h .0)) (g .1) (h .1) (λ s. k (same-turned _ _ s))
   where
-    go : (a b c : Bool) → (T a → b ≡ c) → T (not a || Bool·beq b c)
-    go false b c e = tt
+    go : (a b c : Bool) → (T a → b ≡ c) → T (Bool·beq b c || not a)
+    go false b c e = or-r (Bool·beq b c) true tt
     go true true c e = rw (sym (e tt)) tt
     go true false c e = rw (sym (e tt)) tt
 

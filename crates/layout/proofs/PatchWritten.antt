@@ -190,15 +190,15 @@ rows-fit block are =
     let n = rowCount block in
     let below = byte-below block are in
     every-i (rowFits (version block)) (rowsIn block n) (λ row m.
-      let b = rows-bytes-of block below n row m in
-      let (i, h, e) = among-rows block n m in
-      and-i (every isByte (numbers row) && isByte (row .region)) (roomy (version block) row)
-      (and-i (every isByte (numbers row)) (isByte (row .region))
-      (every-i isByte (numbers row) (λ x k. lt→ltb x 256
-        (in-cases k (λ e. rw e (b .byte-p)) λ k. in-cases k (λ e. rw e (b .byte-q)) λ k. in-cases k (λ e. rw e (b .byte-r)) λ k.
-        in-cases k (λ e. rw e (b .byte-s)) λ k. absurd (List·Memᴰ·not-nil k))))
-      (lt→ltb (row .region) 256 (rw e (row-region block below i))))
-      (rows-room block n row m))
+    let b = rows-bytes-of block below n row m in
+    let (i, h, e) = among-rows block n m in
+    and-i (every isByte (numbers row) && isByte (row .region)) (roomy (version block) row)
+    (and-i (every isByte (numbers row)) (isByte (row .region))
+    (every-i isByte (numbers row) (λ x k. lt→ltb x 256
+    (in-cases k (λ e. rw e (b .byte-p)) λ k. in-cases k (λ e. rw e (b .byte-q)) λ k. in-cases k (λ e. rw e (b .byte-r)) λ k.
+    in-cases k (λ e. rw e (b .byte-s)) λ k. absurd (List·Memᴰ·not-nil k))))
+    (lt→ltb (row .region) 256 (rw e (row-region block below i))))
+    (rows-room block n row m))
 
 module _ (block : List ℕ) (room : bodyBytes ≤ length block) (are : T (every isByte block)) where
   -- the points and the rows of a block with counts within the limits, written, are the bytes that they were read from
@@ -236,5 +236,5 @@ module _ (body rest : List ℕ) (room : bodyBytes ≤ length body) where
   unfolding fieldsOf rowsIn
   front-fields few =
       let rows = map-same (rowIn (body ++ rest)) (rowIn body) (numbersFrom 0 (rowCount body)) (λ i m.
-        front-row i (omega (arith, numbers-e 0 (rowCount body) m .1))) in
+      front-row i (omega (arith, numbers-e 0 (rowCount body) m .1))) in
       rw (front-byte 1 (omega arith), front-byte 2 (omega arith), front-part pointsAt rowsAt (omega arith) (omega arith), rows)

@@ -6,7 +6,6 @@ ghost use mathlib.Core.Path.{_≡_};
 ghost use lib.Dec.{eqb};
 ghost use lib.ListN.{length, getD, take, drop, set};
 ghost use Rattle.layout.specs.Layout.{blockBytes, bodyBytes, isVersion, sumsOf, sealed, sumWrong, openFields, noFields};
-
 use rows::MARKED_VERSION;
 use rows::PLAIN_VERSION;
 use rows::ROWS_AT;

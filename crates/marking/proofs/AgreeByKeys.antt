@@ -91,7 +91,7 @@ module _ (rows : List Row) where
   all = flatMap markedFaces rows
 
   abbrev meet : Face × Bool → Face × Bool → Bool
-  meet g h = not (sameFace (reversed (g .0)) (h .0)) || Bool·beq (g .1) (h .1)
+  meet g h = Bool·beq (g .1) (h .1) || not (sameFace (reversed (g .0)) (h .0))
 
   marked-by : (f : Face) → T (any (marks f) rows) → (g : Face × Bool) × List·Memᴰ g all × T (sameFace f (g .0)) × (g .1 ≡ true)
   unfolding marks
@@ -115,7 +115,7 @@ module _ (rows : List Row) where
       go : T (any (marks (reversed (g .0))) rows) ⊎ T (not (any (marks (reversed (g .0))) rows)) → T (not (any (marks (reversed (g .0))) rows))
       go (inl x) =
           let (u, l, s, t) = marked-by (reversed (g .0)) x in
-          absurd (rw (yes-is (sameFace (reversed (g .0)) (u .0)) s, e, t) at (every-at (meet g) all (every-at (λ g. every (meet g) all) all h k) l))
+          absurd (rw (e, t, yes-is (sameFace (reversed (g .0)) (u .0)) s) at (every-at (meet g) all (every-at (λ g. every (meet g) all) all h k) l))
       go (inr x) = x
 
   alone-at : T (every (meetsUnmarked rows) rows) → (g : Face × Bool) → List·Memᴰ g all → T (g .1 || not (any (marks (reversed (g .0))) rows))
@@ -125,9 +125,10 @@ module _ (rows : List Row) where
 
   both-meet : T (every (meetsUnmarked rows) rows) → (g : Face × Bool) → List·Memᴰ g all → (e : Face × Bool) → List·Memᴰ e all
       → (a b : Bool) → g .1 ≡ a → e .1 ≡ b → (s : Bool) → sameFace (reversed (g .0)) (e .0) ≡ s → T (meet g e)
-  both-meet h g k e l a b p q false x = rw x tt
-  both-meet h g k e l true true p q true x = rw (p, q, x) tt
-  both-meet h g k e l false false p q true x = rw (p, q, x) tt
+  both-meet h g k e l a b p q false x =
+      or-r (Bool·beq (g .1) (e .1)) (not (sameFace (reversed (g .0)) (e .0))) (is-no (sameFace (reversed (g .0)) (e .0)) x)
+  both-meet h g k e l true true p q true x = rw (p, q) tt
+  both-meet h g k e l false false p q true x = rw (p, q) tt
   both-meet h g k e l false true p q true x =
       absurd (rw (p, yes-is (any (marks (reversed (g .0))) rows) (marks-it (reversed (g .0)) e l (is-yes _ x) q)) at (alone-at h g k))
   both-meet h g k e l true false p q true x =
@@ -139,9 +140,9 @@ module _ (rows : List Row) where
   agree-one-sided =
       same-test (every (λ g. every (meet g) all) all) (every (meetsUnmarked rows) rows)
       (λ h. every-i (meetsUnmarked rows) rows λ row m. every-i (λ g. g .1 || not (any (marks (reversed (g .0))) rows)) (markedFaces row)
-        λ g k. unmarked-alone h g (flatMap-i markedFaces rows m k) (g .1) refl)
+      λ g k. unmarked-alone h g (flatMap-i markedFaces rows m k) (g .1) refl)
       (λ h. every-i (λ g. every (meet g) all) all λ g k. every-i (meet g) all λ e l.
-        both-meet h g k e l (g .1) (e .1) refl refl (sameFace (reversed (g .0)) (e .0)) refl)
+      both-meet h g k e l (g .1) (e .1) refl refl (sameFace (reversed (g .0)) (e .0)) refl)
 
 -- each face of a row is marked, or turned over not among some keys
 abbrev pub rowTest : List ℕ → Row → Bool
@@ -153,11 +154,11 @@ pub agree-by-keys : (rows : List Row) → ((row : Row) → List·Memᴰ row rows
 agree-by-keys rows b =
     agree-one-sided rows
     ∙ every-same (meetsUnmarked rows) (rowTest (keysMarked (λ row. false) rows)) rows (λ row m. every-same
-      (λ g. g .1 || not (any (marks (reversed (g .0))) rows))
-      (λ g. g .1 || not (has (keysMarked (λ row. false) rows) (faceKey (reversed (g .0)))))
-      (markedFaces row) (λ g k.
-      ap (λ x. g .1 || not x)
-      (sym (keys-marked (λ row. false) (reversed (g .0)) rows (small-reversed (g .0) (marked-small row (b row m) g k)) b))))
+    (λ g. g .1 || not (any (marks (reversed (g .0))) rows))
+    (λ g. g .1 || not (has (keysMarked (λ row. false) rows) (faceKey (reversed (g .0)))))
+    (markedFaces row) (λ g k.
+    ap (λ x. g .1 || not x)
+    (sym (keys-marked (λ row. false) (reversed (g .0)) rows (small-reversed (g .0) (marked-small row (b row m) g k)) b))))
 
 -- ---- no marks
 
@@ -183,5 +184,5 @@ unfolding marks
 unmarked-agree rows none =
     agree-one-sided rows
     ∙ yes-is _ (every-i (meetsUnmarked rows) rows λ row m. every-i (λ g. g .1 || not (any (marks (reversed (g .0))) rows)) (markedFaces row)
-      λ g k. or-r (g .1) (not (any (marks (reversed (g .0))) rows)) (not-any (marks (reversed (g .0))) rows
-      (every-i (λ row. not (marks (reversed (g .0)) row)) rows λ row m. unmarked-none row (none row m) (sameFace (reversed (g .0))))))
+    λ g k. or-r (g .1) (not (any (marks (reversed (g .0))) rows)) (not-any (marks (reversed (g .0))) rows
+    (every-i (λ row. not (marks (reversed (g .0)) row)) rows λ row m. unmarked-none row (none row m) (sameFace (reversed (g .0))))))

@@ -29,11 +29,11 @@ markedIn rows f = any (marks f) rows || any (marks (reversed f)) rows
 
 -- ---- 22 and 23
 
--- both rows at a face agree: a face and the same face the other way round are both marked, or neither is
+-- both rows at a face agree: two faces are both marked or neither is, or they are not one face, once each way round
 unfoldable pub agree : List Row → Bool
 agree rows =
     let all = flatMap markedFaces rows in
-    every (λ g. every (λ h. not (sameFace (reversed (g .0)) (h .0)) || Bool·beq (g .1) (h .1)) all) all
+    every (λ g. every (λ h. Bool·beq (g .1) (h .1) || not (sameFace (reversed (g .0)) (h .0))) all) all
 
 -- the row marks a face that has all these numbers
 unfoldable pub marksOver : List ℕ → Row → Bool

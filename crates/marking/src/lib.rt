@@ -27,7 +27,15 @@ fn key_of(over: bool, x: u8, y: u8, z: u8) -> u32
 }
 
 // The key of a face that is marked is stored behind n others; the number of keys is returned.
-fn store_face(keys: &mut [u32; MOST_KEYS], n: usize, mark: bool, over: bool, x: u8, y: u8, z: u8) -> usize
+fn store_face(
+    keys: &mut [u32; MOST_KEYS],
+    n: usize,
+    mark: bool,
+    over: bool,
+    x: u8,
+    y: u8,
+    z: u8,
+) -> usize
     requires { ⌜ (length (now keys) ≡ mostKeys) × (n < mostKeys) ⌝ }
     ensures { λ r. ⌜ (length (now (keys .exit)) ≡ mostKeys) × (r ≤ n + 1)
         × (take r (now (keys .exit)) ≡ take n (now (keys .entry)) ++ cond mark (keyOf over (x, y, z) ∷ []) []) ⌝ }

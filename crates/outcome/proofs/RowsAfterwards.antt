@@ -58,8 +58,13 @@ module _ (block : List ℕ) (e f : ℕ) {closed : Bool} {ring : Ring} {region : 
   unfolding patchAfter tableAfter
   few =
       let made = length-map new (dressBy (newMark (its .removed) (its .kept))) in
-      omega (arith, chosen-rows its (given .ringed .sound) (given .ringed .ready .long) (given .way), given .room,
-        length-append (its .kept) (rowsMade its), length-append (its .kept) new)
+      omega (
+        arith,
+        chosen-rows its (given .ringed .sound) (given .ringed .ready .long) (given .way),
+        given .room,
+        length-append (its .kept) (rowsMade its),
+        length-append (its .kept) new,
+      )
 
   pub few-afterwards : length (rowsAfterwards block e f) ≤ maxRows
   few-afterwards = subst (λ (rows : List Row). length rows ≤ maxRows) own-rows few

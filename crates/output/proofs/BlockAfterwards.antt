@@ -88,8 +88,10 @@ module _ (block : List ℕ) (are : T (every isByte block)) (opens : openAnswer b
         ∙ pasted-behind (take rowsAt block) (zeros ++ rest) bytes rowsAt (block-front block opens)
         ∙ ap (λ l. take rowsAt block ++ bytes ++ l)
         (drop-append-le (length bytes) zeros rest room ∙ ap (λ l. l ++ rest) (drop-zeros (length bytes) tableBytes))
-        ∙ rw (append-assoc (take rowsAt block) bytes (replicate (tableBytes - length bytes) 0 ++ rest),
-          ← (append-assoc bytes (replicate (tableBytes - length bytes) 0) rest))
+        ∙ rw (
+          append-assoc (take rowsAt block) bytes (replicate (tableBytes - length bytes) 0 ++ rest),
+          ← (append-assoc bytes (replicate (tableBytes - length bytes) 0) rest),
+        )
 
     -- and finished: the block of the patch with these rows
     pub block-finished : (rows : List Row) → length rows ≤ maxRows → (two : List ℕ) → two ≡ withRows one 0 rows → (n : ℕ) → n ≡ length rows

@@ -10,9 +10,9 @@ pub use calls::Summarised;
 pub use display::shown;
 pub use flip::flip;
 use layout::POINTS_AT;
-use rows::ROWS_AT;
 pub use removal::page;
 pub use removal::remove;
+use rows::ROWS_AT;
 
 // The summary of a block, or a refusal of opening.
 pub fn summary(block: &[u8]) -> Summarised
@@ -24,10 +24,5 @@ pub fn summary(block: &[u8]) -> Summarised
     }
     let count = block[1] as usize;
     let n = block[2] as usize;
-    Summarised::Summary(summary::summary_of(
-        &block[POINTS_AT..ROWS_AT],
-        count,
-        block,
-        n,
-    ))
+    Summarised::Summary(summary::summary_of(&block[POINTS_AT..ROWS_AT], count, block, n))
 }

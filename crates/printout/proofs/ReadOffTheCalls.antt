@@ -5,11 +5,12 @@ use mathlib.Core.List.{List, _++_, append-assoc}
 use mathlib.Core.Path.{_≡_, sym, ap, _∙_}
 use native.Mathlib.Omega.{arith}
 use lib.Dec.{T, lt→ltb}
-use lib.ListN.{length}
+use lib.ListN.{length, length-map}
 use lib.Seq.{take-append-seam}
 use Rattle.lists.specs.Lists.{every}
 use Rattle.lists.proofs.Lists.{every-i}
 use Rattle.page.specs.declared.PageRow.{PageRow}
+use Rattle.marking.specs.Marking.{dressBy, newMark}
 use Rattle.layout.specs.Layout.{fieldsOf}
 use Rattle.layout.specs.Within.{isByte}
 use Rattle.layout.proofs.BlockParts.{filled-length}
@@ -20,7 +21,7 @@ use Rattle.triangulation.specs.Triangulation.{newRows}
 use Rattle.triangulation.specs.Best.{chosen}
 use Rattle.calls.specs.declared.Removal.the-variants.{Done, Refused}
 use Rattle.calls.specs.declared.Removed.{Removed}
-use Rattle.calls.specs.Removing.{removeAnswer, removeBytes, removeGives, removalNumber}
+use Rattle.calls.specs.Removing.{removeAnswer, removeBytes, removeGives, removalNumber, rowsMade}
 use Rattle.calls.proofs.CallTests.{removes}
 use Rattle.calls.proofs.SoundEdges.{ring-point}
 use Rattle.accepted.proofs.AcceptedCalls.{remove-accepted}
@@ -60,8 +61,10 @@ module _ (block out : List ℕ) (e f : ℕ) (done : removeAnswer block out e f �
   fits : (minRing ≤ m site) × (m site ≤ maxRing)
   fits = length-fits site (removes block out e f done .length-right)
 
-  new-count : length (newRows site 1 (chosen site)) ≡ rowsOf (ringWith (site .ring))
-  new-count = let r = removes block out e f done in ring-rows block e f (r .sound) (fits .0) (r .way)
+  new-count : length (rowsMade site) ≡ rowsOf (ringWith (site .ring))
+  new-count =
+      let r = removes block out e f done in
+      length-map (newRows site 1 (chosen site)) (dressBy (newMark (site .removed) (site .kept))) ∙ ring-rows block e f (r .sound) (fits .0) (r .way)
 
   -- a point of the ring is one of 64
   ring-bytes : T (every isByte (site .ring))

@@ -6,18 +6,16 @@ use lib.Dec.{eqb}
 use lib.ListN.{length, take, replicate}
 use Rattle.layout.specs.Layout.{blockBytes, byte, fieldsOf}
 use Rattle.ring.specs.Ring.{Site, siteOf}
-use Rattle.triangulation.specs.Triangulation.{newRows}
-use Rattle.triangulation.specs.Best.{chosen}
 use Rattle.summary.specs.Summary.{summaryOf}
 use Rattle.lines.specs.Lines.{summaryLines, answerLine, ringLine, rowLine}
-use Rattle.calls.specs.Removing.{removeAnswer, removeBytes}
+use Rattle.calls.specs.Removing.{rowsMade, removeAnswer, removeBytes}
 
 -- `before` and `after`, `ring` the ring or the chain, and each `row` four numbers and the region of a new row, in written order
 unfoldable pub report : List ℕ → List ℕ → Site → List ℕ
 report block output site =
     summaryLines (summaryOf (fieldsOf block)) (summaryOf (fieldsOf output))
     ++ ringLine (site .ring)
-    ++ flatMap rowLine (newRows site 1 (chosen site))
+    ++ flatMap rowLine (rowsMade site)
 
 -- the program takes 514 bytes, a block, then the two ends; a refusal prints the line `answer N` alone, as does a wrong length
 unfoldable pub printout : List ℕ → List ℕ

@@ -40,16 +40,7 @@ pub fn remove(block: &[u8], e: usize, f: usize, out: &mut [u8]) -> Removed
         return refused(number);
     }
     output::begin(block, out);
-    let after = replace(
-        block,
-        e,
-        f,
-        tried.closed,
-        ring,
-        tried.region,
-        &apexes,
-        out,
-    );
+    let after = replace(block, e, f, tried.closed, ring, tried.region, &apexes, out);
     output::finish(out, after.n);
     let page = after.page;
     Removed {

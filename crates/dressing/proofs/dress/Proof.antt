@@ -35,7 +35,7 @@ returns c =
     (all-dressed-alike (holdsFace (a .x ∷ a .y ∷ a .z ∷ [])) (rowsIn table (a .n)) (start .pre .0 .2)
     (rows-bytes table (λ j. omega (arith, known .before .shared-slice-known .given j)) (a .n)) _ (gathered .gather .ensures .2) _
     (λ row m. let (i, k, e) = Memᴰ·of-map (rowIn rows) (numbersFrom (a .from) (a .end - a .from)) m in
-      subst Bytes e (row-bytes rows (λ j. omega (arith, known .slice-known .given j)) i)))
+    subst Bytes e (row-bytes rows (λ j. omega (arith, known .slice-known .given j)) i)))
 
 pub dress-spec : {M : Type 1} → statement M
 dress-spec = tie.close (tie.spec gather-requires dress-all-requires same-length returns)

@@ -57,8 +57,7 @@ loop-again c =
     let i = k .loop .i in
     let dress = dressBy (λ f. has (take (a .n) (a .keys .now)) (faceKey f)) in
     let dressed : put .before .before .dress-row .result ≡ dress (rowIn (k .loop .rows) i) =
-    put .before .before .dress-row .ensures ∙ ap dress (put .before .before .before .row-in .ensures) in
-    (
+    put .before .before .dress-row .ensures ∙ ap dress (put .before .before .before .row-in .ensures) in (
       omega arith,
       omega arith,
       ap length (put .put-row .ensures) ∙ with-length (k .loop .rows) i (_ ∷ []) (omega (arith, k .loop .inv .2)) ∙ k .loop .inv .2,

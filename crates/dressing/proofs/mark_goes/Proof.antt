@@ -40,8 +40,8 @@ returns c =
     let over = marksOver (a .x ∷ a .y ∷ a .z ∷ []) in
     let none = c .before .unmarked .ensures (c .if1 .taken) in
     sym (no-is (any over (rowsIn table (a .n))) (not-any over (rowsIn table (a .n)) (every-i _ (rowsIn table (a .n)) λ row m.
-      let (i, h, e) = among-rows table (a .n) m in
-      rw (unmarked-over (a .x ∷ a .y ∷ a .z ∷ []) row (rw e (none i))) tt)))
+    let (i, h, e) = among-rows table (a .n) m in
+    rw (unmarked-over (a .x ∷ a .y ∷ a .z ∷ []) row (rw e (none i))) tt)))
 
 loop-holds : tie.Need-loop-holds Inv-loop μ-loop
 unfolding any rowsIn numbersFrom

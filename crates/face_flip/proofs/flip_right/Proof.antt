@@ -171,8 +171,8 @@ put-three-requires c κs =
     (marks .if4 .left) _ (begun .begin .ensures) _ _ (keeps .keep-others .ensures .0) (keeps .keep-others .ensures .1) in (
       omega (arith, e5 .if5 .left),
       found-linked (a .block .now) (a .out .now) (a .x) (a .y) (a .z) (start .pre) (shared .share .result) (shared .share .ensures) (e1 .if1 .left)
-    (e2 .if2 .left) (e3 .if3 .left) _ (region .before .regions .given .1) _ (marks .before .mark-goes .ensures)
-    (marks .if4 .left) _ (begun .begin .ensures) _ _ (keeps .keep-others .ensures .0) (keeps .keep-others .ensures .1) (c .least .result) (c .least .ensures),
+          (e2 .if2 .left) (e3 .if3 .left) _ (region .before .regions .given .1) _ (marks .before .mark-goes .ensures)
+          (marks .if4 .left) _ (begun .begin .ensures) _ _ (keeps .keep-others .ensures .0) (keeps .keep-others .ensures .1) (c .least .result) (c .least .ensures),
     )
 
 slice-aggregate-dress : tie.Need-slice-aggregate-dress
@@ -296,11 +296,13 @@ finish-requires c κs =
     let e1 = e2 .before .before in
     let shared = sharedAt e3 in
     let start = startAt e3 in
-    let a = start .args in
-    (table-size (a .block .now) (a .out .now) (a .x) (a .y) (a .z) (start .pre) (shared .share .result) (shared .share .ensures) (e1 .if1 .left)
-    (e2 .if2 .left) (e3 .if3 .left) _ (region .before .regions .given .1) _ (marks .before .mark-goes .ensures)
-    (marks .if4 .left) _ (begun .begin .ensures) _ _ (keeps .keep-others .ensures .0) (keeps .keep-others .ensures .1) (e5 .if5 .left) (least .least .result)
-    (least .least .ensures) _ (put .put-three .ensures) _ (worn .dress .ensures), e5 .if5 .left)
+    let a = start .args in (
+      table-size (a .block .now) (a .out .now) (a .x) (a .y) (a .z) (start .pre) (shared .share .result) (shared .share .ensures) (e1 .if1 .left)
+          (e2 .if2 .left) (e3 .if3 .left) _ (region .before .regions .given .1) _ (marks .before .mark-goes .ensures)
+          (marks .if4 .left) _ (begun .begin .ensures) _ _ (keeps .keep-others .ensures .0) (keeps .keep-others .ensures .1) (e5 .if5 .left) (least .least .result)
+          (least .least .ensures) _ (put .put-three .ensures) _ (worn .dress .ensures),
+      e5 .if5 .left,
+    )
 
 slice-aggregate-copy : tie.Need-slice-aggregate-copy
 slice-aggregate-copy c = search needs

@@ -34,8 +34,7 @@ dress-requires c κs =
     let start = kept .before .before .before .before .before in
     let args = start .args in
     let (from, room) = dress-room (args .coordinates .now) (args .count) (args .table .now) (args .n) (args .a) (args .b) (start .pre .0)
-    (start .pre .1) _ (kept .keep-others .ensures .0) _ (kept .keep-others .ensures .1) _ _ (expanded .expand .ensures .1) in
-    (
+    (start .pre .1) _ (kept .keep-others .ensures .0) _ (kept .keep-others .ensures .1) _ _ (expanded .expand .ensures .1) in (
       (start .pre .0 .ready .rows, omega (arith, start .pre .0 .ready .few-rows), start .pre .0 .agrees),
       (from, room),
     )
