@@ -10,7 +10,6 @@ use lib.ListN.{length}
 use Rattle.lists.specs.Lists.{every}
 use Rattle.lists.proofs.Tests.{and-true}
 use Rattle.lists.proofs.Places.{in-cases}
-use Rattle.lists.proofs.Images.{flatMap-e}
 use Rattle.rows.specs.declared.Row.{Row}
 use Rattle.rows.specs.Rows.{version, holds, holdsEdge, holdsFace}
 use Rattle.rows.specs.Regions.{mixed}
@@ -21,7 +20,7 @@ use Rattle.layout.proofs.PatchWritten.{rows-counted}
 use Rattle.dressing.proofs.NewRowsDressed.{Plain}
 use Rattle.ring.specs.Ring.{Site, siteOf, m, minRing, notFlat}
 use Rattle.ring.proofs.EdgeGoesRound.{OneRound, tests-passed, site-goes-round}
-use Rattle.triangulation.specs.Triangulation.{Tri, triangles, twoRows, newRows, tableAfter, rowsAfter}
+use Rattle.triangulation.specs.Triangulation.{newRows, tableAfter, rowsAfter}
 use Rattle.triangulation.specs.Admissible.{admissible}
 use Rattle.triangulation.specs.Best.{chosen}
 use Rattle.triangulation.proofs.WholeRing.{BestWay, after-length, after-rows}
@@ -31,6 +30,7 @@ use Rattle.calls.proofs.CallTests.{Flips23, removes, each-count, never-done, fl
 use Rattle.calls.proofs.SoundEdges.{opens-rule, sound-site, ends-fit}
 use Rattle.kept_marks.specs.Replacing.{MarksKept}
 use Rattle.kept_marks.proofs.DressedRows.{dress-keeps, dress-total}
+use Rattle.kept_marks.proofs.NewRowsPlain.{new-plain}
 use Rattle.kept_marks.proofs.FlipMarks.{flip-marks}
 use Rattle.kept_marks.proofs.RingMarks.{removal-marks}
 use Rattle.tables.proofs.FacingRows.{Facing, face-apart, two-facing, facing-go, flipped-total}
@@ -40,13 +40,6 @@ use Rattle.accepted.proofs.AcceptedBytes.{accepted}
 use Rattle.accepted.proofs.ChosenWay.{made-length, site-total, some-way, site-chosen}
 
 -- new rows are written with the region of the rows that go, and without marks
-
-new-plain : (site : Site) (t : Tri) (row : Row) → List·Memᴰ row (newRows site 1 t) → Plain (site .removed) row
-unfolding newRows twoRows
-new-plain site t row k =
-    let (triangle, i, own) = flatMap-e (twoRows site) (triangles 1 t) k in
-    in-cases own (λ e. rw e (record { own-region = refl; unmarked = refl })) λ own.
-    in-cases own (λ e. rw e (record { own-region = refl; unmarked = refl })) λ own. absurd (List·Memᴰ·not-nil own)
 
 three-plain : (pair : Pair) (face : List ℕ) (row : Row) → List·Memᴰ row (threeRows pair face) → Plain (pair .removed) row
 unfolding threeRows
@@ -96,7 +89,7 @@ module _ (block : List ℕ) (e f : ℕ) (sound : Sound block e f) where
       let points = fieldsOf block .points in
       let new = newRows site 1 (chosen site) in
       let marked = newMark (site .removed) (site .kept) in
-      accepted block (sound .opens) (holdsEdge (min e f) (max e f)) new (new-plain site (chosen site))
+      accepted block (sound .opens) (holdsEdge (min e f) (max e f)) new (new-plain site 1 (chosen site))
       (omega (arith, made-length site, after-length site (chosen site) (best .way .spans)))
       (rw (dress-keeps marked (length points) (site .kept) new) (best .way .keeps)) (site-marks three clear best)
       (dress-total marked points (site .kept) new ∙ site-total block e f sound flat (chosen site) (best .way .spans)) unmixed

@@ -7,3 +7,4 @@ pub mod NumbersOfFaces
 pub mod LinksAndSides
 pub mod RingMarks
 pub mod FlipMarks
+pub mod NewRowsPlain

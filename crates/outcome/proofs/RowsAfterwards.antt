@@ -32,8 +32,8 @@ use Rattle.cells.specs.Steps.{cells}
 use Rattle.calls.specs.Removing.{rowsMade, patchAfter}
 use Rattle.calls.proofs.BestDecides.{chosen-keeps, chosen-rows}
 use Rattle.kept_marks.proofs.DressedRows.{dress-keeps}
+use Rattle.kept_marks.proofs.NewRowsPlain.{new-plain}
 use Rattle.replacement.specs.Steps.{Carriable, edgeSite, Replaceable}
-use Rattle.replacement.proofs.CarriedOut.{new-plain}
 use Rattle.outcome.specs.Steps.{rowsAfterwards, Replaces}
 
 module _ (block : List ℕ) (e f : ℕ) {closed : Bool} {ring : Ring} {region : ℕ} {apexes : List ℕ}

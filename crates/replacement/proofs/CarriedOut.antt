@@ -1,26 +1,24 @@
 -- The rows that stay, with the new rows of the chosen triangulation behind them and these dressed, are the rows afterwards.
 use Prim.Native.Nat.{ℕ, zero, suc, _+_, _-_, _*_, _≤_, _<_, min, max}
 use mathlib.Core.Bool.{Bool, not}
-use mathlib.Core.List.{List, [], _∷_, _++_, map, List·Memᴰ, List·Memᴰ·not-nil}
-use mathlib.Core.Path.{_≡_, refl, sym, ap, _∙_}
+use mathlib.Core.List.{List, [], _∷_, _++_, map}
+use mathlib.Core.Path.{_≡_, sym, ap, _∙_}
 use native.Mathlib.Omega.{arith}
 use lib.Dec.{T}
 use lib.ListN.{length, getD, replicate, length-append, length-map, List·getD-append}
 use Rattle.lists.specs.Lists.{every, those, numbersFrom}
 use Rattle.lists.proofs.Lists.{those-e}
-use Rattle.lists.proofs.Places.{in-cases}
-use Rattle.lists.proofs.Images.{flatMap-e}
 use Rattle.rows.specs.declared.Row.{Row}
 use Rattle.rows.specs.Rows.{version, rowsAt, rowSize, rowIn, rowsIn, withRows, holdsEdge, holdsFace}
 use Rattle.rows.proofs.RowsOfTables.{rows-room}
 use Rattle.rows.proofs.PastedRows.{with-length, with-more}
 use Rattle.marking.specs.Marking.{dressBy, newMark, dressed}
-use Rattle.dressing.proofs.NewRowsDressed.{Plain, room-plain, dressed-in-place}
+use Rattle.dressing.proofs.NewRowsDressed.{room-plain, dressed-in-place}
 use Rattle.layout.specs.Layout.{maxRows}
 use Rattle.layout.proofs.CellsReadBack.{roomy}
 use Rattle.ring.specs.declared.Ring.{Ring}
 use Rattle.ring.specs.Ring.{Site, siteOf, m, maxRing}
-use Rattle.triangulation.specs.Triangulation.{Tri, span, v, triangles, twoRows, newRows, tableAfter}
+use Rattle.triangulation.specs.Triangulation.{span, v, newRows, tableAfter}
 use Rattle.triangulation.specs.Best.{chosen}
 use Rattle.triangulation.specs.Steps.{siteIn}
 use Rattle.triangulation.proofs.WholeRing.{after-length}
@@ -29,16 +27,9 @@ use Rattle.expansion.specs.Steps.{Between, SiteRows, treeIn}
 use Rattle.output.specs.Output.{staying}
 use Rattle.output.proofs.RowsThatStay.{edge-staying, edge-going, face-staying}
 use Rattle.calls.specs.Removing.{rowsMade, patchAfter}
+use Rattle.kept_marks.proofs.NewRowsPlain.{new-plain}
 use Rattle.edge.specs.Steps.{Ringed}
 use Rattle.replacement.specs.Steps.{Carriable}
-
--- new rows are written with the region of the rows that go, and without marks
-pub new-plain : (site : Site) (i : ℕ) (t : Tri) (row : Row) → List·Memᴰ row (newRows site i t) → Plain (site .removed) row
-unfolding newRows twoRows
-new-plain site i t row m =
-    let (triangle, k, l) = flatMap-e (twoRows site) (triangles i t) m in
-    in-cases l (λ e. rw e (record { own-region = refl; unmarked = refl })) λ l.
-    in-cases l (λ e. rw e (record { own-region = refl; unmarked = refl })) λ l. absurd (List·Memᴰ·not-nil l)
 
 module _ (coordinates : List ℕ) (count : ℕ) (table : List ℕ) (n a b : ℕ) {closed : Bool} {ring : Ring}
     (given : Ringed coordinates count table n a b closed ring) {region : ℕ} {apexes rows : List ℕ}
