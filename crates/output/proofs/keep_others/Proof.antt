@@ -1,4 +1,4 @@
--- The invariant of `keep_others`: the rows that stay, of the first i, stand at the front of the scratch table.
+-- The invariant of `keep_others`: the rows that stay, of the first i, stand at the front of the other table.
 use Prim.Native.Nat.{_≤_, _-_}
 use mathlib.Core.Logic.{⊎-elim}
 use mathlib.Core.Path.{_≡_, refl, _∙_}
