@@ -45,7 +45,45 @@ any-parted h p q xs =
         let (k, y) = those-e (λ x. not (h x)) xs m in
         any-i (λ x. cond (h x) (p x) (q x)) xs k (rw (no-is (h x) y) t)
 
+-- ---- marks and uses of a face
+
+pub turned-marks : (f g : Face) (row : Row) → Turned f g → T (marks f row) → T (marks g row)
+unfolding marks
+turned-marks f g row t h =
+    let (e, m, k) = any-e (λ e. sameFace f (e .0) && e .1) (markedFaces row) h in
+    any-i (λ e. sameFace g (e .0) && e .1) (markedFaces row) m
+    (and-i (sameFace g (e .0)) (e .1)
+    (turned-same g (e .0) (turned-trans (turned-sym t) (same-turned f (e .0) (and-l (sameFace f (e .0)) (e .1) k))))
+    (and-r (sameFace f (e .0)) (e .1) k))
+
+pub marks-uses : (f : Face) (row : Row) → T (marks f row) → T (uses f row)
+unfolding marks uses markedFaces faces
+marks-uses f row h =
+    let (e, m, k) = any-e (λ e. sameFace f (e .0) && e .1) (markedFaces row) h in
+    any-i (sameFace f) (faces row) (Memᴰ·map (λ e. e .0) m) (and-l (sameFace f (e .0)) (e .1) k)
+
 -- ---- the words
+
+-- where a face of the shell that a kept row marks is marked by the row that used it, the three cases are one look-up
+pub one-look-up : (removed kept : List Row) (f : Face)
+    → (T (any (uses f) removed) → T (any (marks (reversed f)) kept) → T (any (marks f) removed))
+    → newMark removed kept f ≡ any (marks f) removed || any (marks (reversed f)) kept
+unfolding newMark
+one-look-up removed kept f =
+    go (any (uses f) removed) (any (uses (reversed f)) kept) (any (marks f) removed) (any (marks (reversed f)) kept)
+    (used f removed) (used (reversed f) kept)
+  where
+    used : (f : Face) (rows : List Row) → T (any (marks f) rows) → T (any (uses f) rows)
+    used f rows h = let (row, m, k) = any-e (marks f) rows h in any-i (uses f) rows m (marks-uses f row k)
+
+    go : (a b c d : Bool) → (T c → T a) → (T d → T b) → (T a → T d → T c) → cond a c (cond b d false) ≡ c || d
+    go true b true d f g h = refl
+    go true b false true f g h = absurd (h tt tt)
+    go true b false false f g h = refl
+    go false b true d f g h = absurd (f tt)
+    go false true false d f g h = refl
+    go false false false true f g h = absurd (g tt)
+    go false false false false f g h = refl
 
 module _ (goes : Row → Bool) (rows : List Row) (agrees : T (agree rows)) where
   abbrev removed : List Row
@@ -53,21 +91,6 @@ module _ (goes : Row → Bool) (rows : List Row) (agrees : T (agree rows)) where
 
   abbrev kept : List Row
   kept = those (λ row. not (goes row)) rows
-
-  marks-turned : (f g : Face) (row : Row) → Turned f g → T (marks f row) → T (marks g row)
-  unfolding marks
-  marks-turned f g row t h =
-      let (e, m, k) = any-e (λ e. sameFace f (e .0) && e .1) (markedFaces row) h in
-      any-i (λ e. sameFace g (e .0) && e .1) (markedFaces row) m
-      (and-i (sameFace g (e .0)) (e .1)
-      (turned-same g (e .0) (turned-trans (turned-sym t) (same-turned f (e .0) (and-l (sameFace f (e .0)) (e .1) k))))
-      (and-r (sameFace f (e .0)) (e .1) k))
-
-  marks-uses : (f : Face) (row : Row) → T (marks f row) → T (uses f row)
-  unfolding marks uses markedFaces faces
-  marks-uses f row h =
-      let (e, m, k) = any-e (λ e. sameFace f (e .0) && e .1) (markedFaces row) h in
-      any-i (sameFace f) (faces row) (Memᴰ·map (λ e. e .0) m) (and-l (sameFace f (e .0)) (e .1) k)
 
   -- the face of the shell is marked by the row that used it wherever a kept row marks it
   shell-marked : (f : Face) → T (any (uses f) removed) → T (any (marks (reversed f)) kept) → T (any (marks f) removed)
@@ -80,7 +103,7 @@ module _ (goes : Row → Bool) (rows : List Row) (agrees : T (agree rows)) where
       let (other, o, marked) = any-e (marks (reversed f)) kept k in
       let turned : Turned (reversed f) (reversed (e .0)) = turned-reversed (same-turned f (e .0) (rw is same)) in
       let beside = any-i (marks (reversed (e .0))) rows (those-e (λ row. not (goes row)) rows o .0)
-      (marks-turned (reversed f) (reversed (e .0)) other turned marked) in
+      (turned-marks (reversed f) (reversed (e .0)) other turned marked) in
       let alone = every-at (λ e. e .1 || not (any (marks (reversed (e .0))) rows)) (markedFaces t)
       (every-at (meetsUnmarked rows) rows (subst T (agree-one-sided rows) agrees) inside) n in
       any-i (marks f) removed m (any-i (λ e. sameFace f (e .0) && e .1) (markedFaces t) n
@@ -91,26 +114,8 @@ module _ (goes : Row → Bool) (rows : List Row) (agrees : T (agree rows)) where
       left false true h k = absurd h
       left false false h k = absurd k
 
-  -- one look-up
   words-short : (f : Face) → newMark removed kept f ≡ any (marks f) removed || any (marks (reversed f)) kept
-  unfolding newMark
-  words-short f = go (any (uses f) removed) refl (any (uses (reversed f)) kept) refl (any (marks f) removed) refl (any (marks (reversed f)) kept) refl
-    where
-      go : (u : Bool) → any (uses f) removed ≡ u → (b : Bool) → any (uses (reversed f)) kept ≡ b
-          → (s : Bool) → any (marks f) removed ≡ s → (k : Bool) → any (marks (reversed f)) kept ≡ k
-          → cond (any (uses f) removed) (any (marks f) removed) (cond (any (uses (reversed f)) kept) (any (marks (reversed f)) kept) false)
-          ≡ any (marks f) removed || any (marks (reversed f)) kept
-      go true u b bt true s k kt = rw (u, s)
-      go true u b bt false s false k = rw (u, s, k)
-      go true u b bt false s true k = absurd (rw s at (shell-marked f (is-yes (any (uses f) removed) u) (is-yes (any (marks (reversed f)) kept) k)))
-      go false u b bt true s k kt =
-          let (t, m, h) = any-e (marks f) removed (is-yes (any (marks f) removed) s) in
-          absurd (rw u at (any-i (uses f) removed m (marks-uses f t h)))
-      go false u true b false s k kt = rw (u, b, s)
-      go false u false b false s false k = rw (u, b, s, k)
-      go false u false b false s true k =
-          let (t, m, h) = any-e (marks (reversed f)) kept (is-yes (any (marks (reversed f)) kept) k) in
-          absurd (rw b at (any-i (uses (reversed f)) kept m (marks-uses (reversed f) t h)))
+  words-short f = one-look-up removed kept f (shell-marked f)
 
   -- by the keys that are gathered
   key-found : ((row : Row) → List·Memᴰ row rows → Bytes row) → (f : Face) → Small f

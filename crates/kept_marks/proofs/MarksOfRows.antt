@@ -19,6 +19,7 @@ use Rattle.mesh.proofs.TurnedFaces.{Turned, stay, on, back, same-turned, turned
 use Rattle.mesh.proofs.TurnedFaces.{FaceOf, no-p, no-q, no-r, no-s, uses-face, face-uses}
 use Rattle.mesh.proofs.MeshRuleStated.{fit-proper}
 use Rattle.mesh.proofs.OneWay.{faceAt, OfFour, of-four, places-turned}
+use Rattle.dressing.proofs.NewMarks.{turned-marks}
 use Rattle.marking.specs.Marking.{markedFaces, marks}
 
 -- ---- the view
@@ -74,22 +75,9 @@ face-marks f row (at-q e h) = marks-i f _ row (List·Memᴰ·tail (List·Memᴰ�
 face-marks f row (at-r e h) = marks-i f _ row (List·Memᴰ·tail (List·Memᴰ·tail (List·Memᴰ·head refl))) e h
 face-marks f row (at-s e h) = marks-i f _ row (List·Memᴰ·tail (List·Memᴰ·tail (List·Memᴰ·tail (List·Memᴰ·head refl)))) e h
 
--- a face that a row marks is one that it uses
-pub marks-uses : (f : Face) (row : Row) → T (marks f row) → T (uses f row)
-marks-uses f row h = face-uses f row (go (marks-face f row h))
-  where
-    go : MarkOf f row → FaceOf f row
-    go (at-p e h) = no-p e
-    go (at-q e h) = no-q e
-    go (at-r e h) = no-r e
-    go (at-s e h) = no-s e
-
 -- a row that marks a face marks it turned
 pub marks-turned : (f g : Face) (row : Row) → Turned f g → marks f row ≡ marks g row
-marks-turned f g row e = same-test (marks f row) (marks g row) (to f g (turned-sym e)) (to g f e)
-  where
-    to : (f g : Face) → Turned g f → T (marks f row) → T (marks g row)
-    to f g e h = let k = marks-e f row h in marks-i g (k .0) row (k .1) (turned-trans e (k .2)) (k .3)
+marks-turned f g row e = same-test (marks f row) (marks g row) (turned-marks f g row e) (turned-marks g f row (turned-sym e))
 
 -- ---- even rearrangements
 

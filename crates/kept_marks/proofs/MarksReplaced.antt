@@ -17,7 +17,8 @@ use Rattle.mesh.specs.Mesh.{Face, faces, uses, usesEitherWay, reversed}
 use Rattle.mesh.proofs.TurnedFaces.{turned-reversed, uses-turned}
 use Rattle.marking.specs.Marking.{marks, markedIn, dressBy, newMark, dressed}
 use Rattle.kept_marks.specs.Replacing.{UsedOnce, AllDifferent, Agree, MarkedBy, Parted, Apart, NoMarkGoes, MarksKept}
-use Rattle.kept_marks.proofs.MarksOfRows.{marks-uses, marks-turned}
+use Rattle.dressing.proofs.NewMarks.{marks-uses, one-look-up}
+use Rattle.kept_marks.proofs.MarksOfRows.{marks-turned}
 use Rattle.kept_marks.proofs.AgreementTested.{agree-tested}
 use Rattle.kept_marks.proofs.DressedRows.{Turns, dress-numbers, dress-uses, dress-mark}
 use Rattle.kept_marks.proofs.PartedTables.{one-passes, parted-any, removed-in, kept-in}
@@ -94,24 +95,13 @@ new-turns removed kept f g e =
 module _ (before removed kept : List Row) (parts : Parted before removed kept) (agrees : Agree before) where
   -- where the rows agree it is the mark of either part, whichever has one
   pub new-mark : (f : Face) → newMark removed kept f ≡ any (marks f) removed || any (marks (reversed f)) kept
-  unfolding newMark
   new-mark f =
-      go (any (uses f) removed) (any (uses (reversed f)) kept) (any (marks f) removed) (any (marks (reversed f)) kept)
-      (any-used f removed) (any-used (reversed f) kept) (λ used marked.
+      one-look-up removed kept f (λ used marked.
       let t = any-e (uses f) removed used in
       let u = any-e (marks (reversed f)) kept marked in
       let mt = removed-in before removed kept parts (t .1) in
       let mu = kept-in before removed kept parts (u .1) in
       any-i (marks f) removed (t .1) (rw (agrees (t .0) (u .0) mt mu f (t .2) (marks-uses (reversed f) (u .0) (u .2))) (u .2)))
-    where
-      go : (a b c d : Bool) → (T c → T a) → (T d → T b) → (T a → T d → T c) → cond a c (cond b d false) ≡ c || d
-      go true b true d f g h = refl
-      go true b false true f g h = absurd (h tt tt)
-      go true b false false f g h = refl
-      go false b true d f g h = absurd (f tt)
-      go false true false d f g h = refl
-      go false false false true f g h = absurd (g tt)
-      go false false false false f g h = refl
 
 -- ---- a replacement
 

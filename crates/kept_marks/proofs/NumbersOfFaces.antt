@@ -17,7 +17,8 @@ use Rattle.mesh.specs.Mesh.{Face, uses, usesEitherWay, reversed}
 use Rattle.mesh.proofs.TurnedFaces.{Turned, as-is, once, twice, stay, FaceOf, no-p, no-q, no-r, no-s, uses-face}
 use Rattle.marking.specs.Marking.{markedFaces, marks, marksOver, markGoes}
 use Rattle.kept_marks.specs.Replacing.{hasAll, NoMarkGoes}
-use Rattle.kept_marks.proofs.MarksOfRows.{marks-e, marks-i, marks-uses}
+use Rattle.dressing.proofs.NewMarks.{marks-uses}
+use Rattle.kept_marks.proofs.MarksOfRows.{marks-e, marks-i}
 
 abbrev pub threeOf : Face → List ℕ
 threeOf f = f .0 ∷ f .1 ∷ f .2 ∷ []

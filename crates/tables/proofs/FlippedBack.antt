@@ -34,7 +34,7 @@ use Rattle.triangulation.specs.Admissible.{admissible}
 use Rattle.triangulation.proofs.WholeRing.{RingWay}
 use Rattle.marking.specs.Marking.{marks, markedIn, agree, marksOver, markGoes, dressBy, newMark, dressed}
 use Rattle.kept_marks.specs.Replacing.{MarksKept}
-use Rattle.kept_marks.proofs.MarksOfRows.{marks-uses}
+use Rattle.dressing.proofs.NewMarks.{marks-uses}
 use Rattle.kept_marks.proofs.NumbersOfFaces.{either-holds, all-in, over-e}
 use Rattle.kept_marks.proofs.AgreementTested.{agree-stated}
 use Rattle.kept_marks.proofs.DressedRows.{dress-uses, dress-mark, dress-even, dress-keeps}
