@@ -1,28 +1,28 @@
 -- New rows written plain behind the kept ones and then dressed in place: what stands there in the end is the dressed ones. A block has room for
 -- both, as the new rows have the region of rows that were read off it, and no marks but those of its rows.
-use Prim.Native.Nat.{ℕ, _+_, _-_, _*_, _≤_, _<_}
+use Prim.Native.Nat.{ℕ, _+_, _-_, _*_, _≤_}
 use mathlib.Core.Bool.{Bool, true, false, cond, not}
-use mathlib.Core.List.{List, [], _∷_, _++_, map, flatMap, append-assoc, List·Memᴰ, Memᴰ·of-map}
+use mathlib.Core.List.{List, _++_, map, flatMap, append-assoc, List·Memᴰ, Memᴰ·of-map}
 use mathlib.Core.Option.{Option, none, some, Option·getD}
 use mathlib.Core.Path.{_≡_, refl, sym, ap, _∙_, subst}
 use native.Mathlib.Omega.{arith}
 use lib.Dec.{T, eqb, ltb}
-use lib.ListN.{length, getD, take, drop, length-append, length-map}
-use lib.Seq.{drop-at, take-at, length-take-le}
+use lib.ListN.{length, take, drop, length-append, length-map}
+use lib.Seq.{drop-at, length-take-le}
 use Rattle.lists.specs.Lists.{every, any, numbersFrom, first}
 use Rattle.lists.proofs.Tests.{no-is}
 use Rattle.lists.proofs.Lists.{every-i, every-both, first-some, not-any}
 use Rattle.rows.specs.declared.Row.{Row}
 use Rattle.rows.specs.declared.Labels.{Labels}
-use Rattle.rows.specs.Labels.{plainVersion, fourBits, noMarks, sameMarks, labelsOf, hasRoomFor}
-use Rattle.rows.specs.Rows.{version, rowsAt, rowSize, storedRow, rowIn, rowsIn, rowBytes, pasted, withRows, labels}
+use Rattle.rows.specs.Labels.{plainVersion, fourBits, noMarks, sameMarks, hasRoomFor}
+use Rattle.rows.specs.Rows.{version, rowsAt, rowSize, rowIn, rowsIn, rowBytes, pasted, withRows, labels}
 use Rattle.rows.specs.Regions.{inRegion, regionOf}
 use Rattle.rows.proofs.LabelsReadBack.{same-marks}
-use Rattle.rows.proofs.RowsOfTables.{rows-length, rows-append, among-rows, rows-room}
+use Rattle.rows.proofs.RowsOfTables.{rows-length, rows-append}
 use Rattle.rows.proofs.PastedRows.{pasted-behind, rows-size, with-version, with-length, with-more}
 use Rattle.mesh.specs.Mesh.{Face, sameFace, reversed, uses}
 use Rattle.layout.proofs.CellsReadBack.{roomy, rows-read}
-use Rattle.marking.specs.Marking.{markedFaces, marks, dressBy, newMark, dressed}
+use Rattle.marking.specs.Marking.{marks, dressBy, newMark, dressed}
 use Rattle.marking.proofs.AgreeByKeys.{unmarked-none}
 
 -- ---- rows in place of others

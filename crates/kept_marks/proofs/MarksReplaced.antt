@@ -1,6 +1,6 @@
 -- What a replacement does to the marks. The one idea: where both rows at a face agree and no face is used twice, each row that uses a face
 -- marks it exactly when the table does. Kept rows do so because they stood there, new rows because the words of the mark say it.
-use mathlib.Core.Bool.{Bool, true, false, cond, _||_}
+use mathlib.Core.Bool.{Bool, true, false, _||_}
 use mathlib.Core.List.{List, _++_, List·Memᴰ, List·Memᴰ·append-cases, Memᴰ·append-left, Memᴰ·append-right, Memᴰ·of-map}
 use mathlib.Core.Logic.{_⊎_, inl, inr}
 use mathlib.Core.Path.{_≡_, refl, sym, ap, _∙_, subst}

@@ -6,7 +6,7 @@ use mathlib.Core.List.{List, [], _∷_, _++_, List·Memᴰ, List·Memᴰ·head, 
 use mathlib.Core.Logic.{_⊎_, inl, inr}
 use mathlib.Core.Path.{_≡_, _∙_, subst}
 use lib.Dec.{T}
-use Rattle.lists.specs.Lists.{every, any, has}
+use Rattle.lists.specs.Lists.{any, has}
 use Rattle.lists.proofs.Tests.{and-l, and-r, and-i, or-l, or-e}
 use Rattle.lists.proofs.Places.{in-cases}
 use Rattle.lists.proofs.Lists.{any-i, any-e, every-at, every-i}

@@ -2,7 +2,7 @@
 -- face that is unmarked has its key, turned over, among them.
 use Prim.Native.Nat.{ℕ}
 use mathlib.Core.Bool.{Bool, true, false, cond, not, _&&_, _||_, Bool·beq}
-use mathlib.Core.List.{List, [], _∷_, map, flatMap, List·Memᴰ, Memᴰ·map}
+use mathlib.Core.List.{List, [], _∷_, flatMap, List·Memᴰ, Memᴰ·map}
 use mathlib.Core.Logic.{_⊎_, inl, inr}
 use mathlib.Core.Path.{_≡_, refl, sym, ap, _∙_}
 use lib.Dec.{T, eqb}

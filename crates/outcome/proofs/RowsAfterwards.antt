@@ -1,7 +1,7 @@
 -- The rows afterwards of an edge that can be replaced: they are few enough, they can be measured, and they are the patch afterwards.
-use Prim.Native.Nat.{ℕ, _+_, _*_, _≤_, min, max}
+use Prim.Native.Nat.{ℕ, _≤_, min, max}
 use mathlib.Core.Bool.{Bool, not}
-use mathlib.Core.List.{List, _++_}
+use mathlib.Core.List.{List}
 use mathlib.Core.Path.{_≡_, sym, ap, ap₂, _∙_, subst}
 use native.Mathlib.Omega.{arith}
 use lib.Dec.{T}
@@ -12,7 +12,7 @@ use Rattle.volume.proofs.PointsInBytes.{points-length}
 use Rattle.page.specs.declared.PageRow.{PageRow}
 use Rattle.page.specs.Page.{shown, pageRow}
 use Rattle.rows.specs.declared.Row.{Row}
-use Rattle.rows.specs.Rows.{version, rowsAt, rowSize, rowsIn, withRows, holdsEdge}
+use Rattle.rows.specs.Rows.{version, rowsIn, withRows, holdsEdge}
 use Rattle.rows.proofs.RowsOfTables.{rows-room}
 use Rattle.rows.proofs.PastedRows.{with-length}
 use Rattle.mesh.specs.Mesh.{numbersFit, keepsMeshRule}

@@ -8,7 +8,7 @@ use mathlib.Core.Path.{_≡_, refl}
 use native.Mathlib.Omega.{arith}
 use mir.Syntax.{w8}
 use mir.Val.{Fits}
-use lib.Dec.{T, eqb, ltb, leb, lt→ltb, ltb→lt}
+use lib.Dec.{T, eqb, leb, lt→ltb, ltb→lt}
 use lib.ListN.{length, take, drop, length-append, length-map, length-take, length-drop}
 use Rattle.lists.specs.Lists.{every, largest, count}
 use Rattle.lists.proofs.Counts.{count-most}

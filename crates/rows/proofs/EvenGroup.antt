@@ -2,7 +2,7 @@
 -- an even rearrangement of four places, and of those a computed test says all.
 use Prim.Native.Nat.{ℕ, _<_}
 use mathlib.Core.Bool.{Bool, false, _&&_, _||_}
-use mathlib.Core.List.{List, [], _∷_, List·Memᴰ, List·Memᴰ·head, Memᴰ·map, Memᴰ·of-map}
+use mathlib.Core.List.{[], _∷_, List·Memᴰ, List·Memᴰ·head, Memᴰ·map, Memᴰ·of-map}
 use mathlib.Core.Logic.{_⊎_, inl, inr}
 use mathlib.Core.Path.{_≡_, refl, sym, ap, _∙_, subst}
 use native.Mathlib.Omega.{arith}

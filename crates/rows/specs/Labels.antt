@@ -1,6 +1,6 @@
 -- Requirement §2: the fifth byte of a row, read and written by the version of its block. In version 1 it is the region. In version 2 its low
 -- four bits are the region and its high four the marks of the row's directed faces, bit 4 for the first.
-use Prim.Native.Nat.{ℕ, _+_, _*_, _/_, _%_, _^_}
+use Prim.Native.Nat.{ℕ, _+_, _/_, _%_, _^_}
 use mathlib.Core.Bool.{Bool, false, cond, _&&_, Bool·beq}
 use lib.Dec.{eqb, ltb}
 use Rattle.rows.specs.declared.Marks.{Marks}

@@ -9,7 +9,7 @@ use Rattle.rows.specs.Rows.{rowsAt, rowsIn}
 use Rattle.mesh.specs.Mesh.{keepsMeshRule}
 use Rattle.mesh.proofs.MeshRuleStated.{keeps-fits}
 use Rattle.marking.specs.Marking.{agree}
-use Rattle.layout.specs.Layout.{blockBytes, bodyBytes, maxPoints, maxRows, pointsAt, pointCount, rowCount, coordinatesOf}
+use Rattle.layout.specs.Layout.{blockBytes, maxPoints, maxRows, pointsAt, pointCount, rowCount, coordinatesOf}
 use Rattle.layout.specs.Layout.{fieldsOf}
 use Rattle.block.specs.Opening.{openAnswer}
 use Rattle.block.specs.Holding.{RightBlock}

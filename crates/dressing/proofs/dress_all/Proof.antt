@@ -1,12 +1,10 @@
 -- The invariant of `dress_all`: the rows before i are dressed, the others stand as they were.
-use Prim.Native.Nat.{ℕ, _+_, _≤_, _-_}
+use Prim.Native.Nat.{_≤_, _-_}
 use mathlib.Core.List.{[], _∷_, map}
-use mathlib.Core.Path.{_≡_, refl, sym, ap, _∙_}
+use mathlib.Core.Path.{_≡_, refl, ap, _∙_}
 use native.Mathlib.Omega.{arith}
-use borrow.Author.Needs.{needs}
 use lib.ListN.{length, take}
 use Rattle.lists.specs.Lists.{has, numbersFrom}
-use Rattle.rows.specs.declared.Row.{Row}
 use Rattle.rows.specs.Rows.{rowIn, withRows}
 use Rattle.rows.proofs.PastedRows.{with-none, with-length}
 use Rattle.keys.specs.Steps.{faceKey}

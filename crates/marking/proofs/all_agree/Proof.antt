@@ -1,7 +1,7 @@
 -- The invariant of `all_agree`: no row before i leaves a face unmarked that another row marks.
-use Prim.Native.Nat.{suc, _≤_, _-_}
+use Prim.Native.Nat.{_≤_, _-_}
 use mathlib.Core.Bool.{true, false}
-use mathlib.Core.Path.{_≡_, refl, sym, ap, _∙_}
+use mathlib.Core.Path.{_≡_, refl, sym, _∙_}
 use native.Mathlib.Numerals.{add-one}
 use native.Mathlib.Omega.{arith}
 use borrow.Author.Needs.{needs}
@@ -12,7 +12,6 @@ use Rattle.lists.specs.Lists.{every, numbersFrom}
 use Rattle.lists.proofs.Lists.{every-no, every-snoc}
 use Rattle.rows.specs.Rows.{rowIn, rowsIn}
 use Rattle.rows.proofs.RowsOfTables.{among-rows, row-among, rows-more, rows-bytes}
-use Rattle.marking.specs.Steps.{keysMarked}
 use Rattle.marking.proofs.AgreeByKeys.{rowTest, agree-by-keys, unmarked-agree}
 use Rattle.marking.proofs.all_agree.Statement.{statement}
 use Rattle.marking.proofs.all_agree.Tie as tie

@@ -1,6 +1,6 @@
 -- A face that is not marked is looked for, turned over, among the keys.
 use mathlib.Core.Bool.{not}
-use mathlib.Core.Path.{ap, _∙_}
+use mathlib.Core.Path.{ap}
 use borrow.Author.Needs.{needs}
 use Rattle.marking.proofs.face_agrees.Statement.{statement}
 use Rattle.marking.proofs.face_agrees.Tie as tie

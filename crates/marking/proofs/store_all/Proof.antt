@@ -1,7 +1,7 @@
 -- The invariant of `store_all`: the keys of the marked faces of the first i rows are stored.
 use Prim.Native.Nat.{_≤_, _-_, _*_}
 use mathlib.Core.Bool.{false}
-use mathlib.Core.List.{_++_, flatMap}
+use mathlib.Core.List.{flatMap}
 use mathlib.Core.Path.{_≡_, refl, sym, ap, _∙_}
 use native.Mathlib.Numerals.{add-one}
 use native.Mathlib.Omega.{arith}

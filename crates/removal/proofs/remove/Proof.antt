@@ -1,6 +1,6 @@
 -- A refusal, of the blocks or of the attempt, keeps the output; with answer 0 the block is begun, the rows are written in their place, and
 -- it is finished.
-use mathlib.Core.Path.{_≡_, refl, _∙_}
+use mathlib.Core.Path.{_≡_, _∙_}
 use native.Mathlib.Omega.{arith}
 use borrow.Author.Needs.{needs}
 use lib.ListN.{length}

@@ -1,6 +1,5 @@
 -- A block of version 1 has no marks.
 use borrow.Author.Needs.{needs}
-use borrow.Author.Tests.{eq-eqb, eqb-true}
 use Rattle.rows.specs.Labels.{labelsOf}
 use Rattle.rows.specs.Rows.{storedRow, rowIn}
 use Rattle.rows.proofs.unmarked.Statement.{statement}
