@@ -23,7 +23,7 @@ use Rattle.ring.specs.Ring.{Site, siteOf, m, orChains, edgeTests, notFlat}
 use Rattle.triangulation.specs.Triangulation.{Tri, span, triangles, newRows}
 use Rattle.triangulation.specs.Admissible.{admissible}
 use Rattle.triangulation.proofs.WholeRing.{RingWay}
-use Rattle.calls.specs.Removing.{worstNow, noRoom, Sound}
+use Rattle.calls.specs.Removing.{worstNow, markLost, noRoom, Sound}
 use Rattle.demands.specs.Kernels.{Kernel, removes}
 use Rattle.demands.specs.TriangleSets.{NoneBetter}
 use Rattle.demands.specs.Premises.{edgeAt, Ringed, Premises}
@@ -41,7 +41,7 @@ use Rattle.rivals.specs.Wheels.{circlePoints, halfPoints, wheelPoints, w
 -- ---- what is computed
 
 abbrev pub block : Bool → ℕ → List ℕ
-block closed n = bytesOf (wheel closed n)
+block closed n = bytesOf 1 (wheel closed n)
 
 abbrev site : Bool → ℕ → Site
 site closed n = siteOf (fieldsOf (block closed n)) 0 1
@@ -78,6 +78,10 @@ rounds closed n = same eqb (site closed n .ring) (numbersFrom 2 n)
 abbrev unmixed : Bool → ℕ → Bool
 unmixed closed n = not (mixed (site closed n .removed))
 
+-- none of them marks a face that goes
+abbrev unmarked : Bool → ℕ → Bool
+unmarked closed n = not (markLost (site closed n))
+
 -- there is room
 abbrev roomy : Bool → ℕ → Bool
 roomy closed n = not (noRoom (site closed n))
@@ -106,7 +110,8 @@ tests closed n =
     ∷ spans closed n
     ∷ keeps closed n
     ∷ betters closed n
-    ∷ unmixed closed n ∷ []
+    ∷ unmixed closed n
+    ∷ unmarked closed n ∷ []
 
 abbrev fits : Bool → ℕ → Bool
 fits closed n = every (λ test. test) (tests closed n)
@@ -168,6 +173,7 @@ module _ (closed : Bool) (n : ℕ) (low : 3 ≤ n) (high : n ≤ 10) where
       (length-passes (site closed n) (omega (arith, size-is)) (omega (arith, size-is)))
       (no-is (notFlat (site closed n)) (test-at 2 (omega arith)))
       (no-is (mixed (site closed n .removed)) (test-at 9 (omega arith)))
+      (no-is (markLost (site closed n)) (test-at 10 (omega arith)))
       (no-is (noRoom (site closed n)) (test-at 5 (omega arith))) (way n) way-is
 
   -- the premises can be met by a ring, and by a flat chain, of each length

@@ -24,14 +24,14 @@ counted-first = shut countingFirst [] [] 1 21 refl refl (λ e. omega arith)
 -- block A and one number that is no point: 21
 pub numbered-first : Demand1 numberingFirst → ⊥
 unfolding ours blockAWith blockA definitions
-numbered-first = shut numberingFirst (bytesOf blockA) (99 ∷ []) 21 9 refl refl (λ e. omega arith)
+numbered-first = shut numberingFirst (bytesOf 1 blockA) (99 ∷ []) 21 9 refl refl (λ e. omega arith)
 
 -- block A and four of its points: 21, and 10 of the first three
 pub took-four : Demand1 takingFour → ⊥
 unfolding ours blockAWith blockA definitions
-took-four = shut takingFour (bytesOf blockA) (2 ∷ 3 ∷ 4 ∷ 0 ∷ []) 21 10 refl refl (λ e. omega arith)
+took-four = shut takingFour (bytesOf 1 blockA) (2 ∷ 3 ∷ 4 ∷ 0 ∷ []) 21 10 refl refl (λ e. omega arith)
 
 -- block A and the edge 0, 1, whose ring is of three: 0
 pub faced-two : Demand1 facingTwo → ⊥
 unfolding ours blockAWith blockA definitions
-faced-two = shut facingTwo (bytesOf blockA) (0 ∷ 1 ∷ []) 0 9 refl refl (λ e. omega arith)
+faced-two = shut facingTwo (bytesOf 1 blockA) (0 ∷ 1 ∷ []) 0 9 refl refl (λ e. omega arith)

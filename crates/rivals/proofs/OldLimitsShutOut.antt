@@ -10,15 +10,15 @@ use Rattle.facts.specs.AllDefinitions.{definitions}
 use Rattle.facts.specs.Facts.{blockAWith}
 use Rattle.rivals.specs.OldLimits.{refusing129, high}
 
-high-opens : openAnswer (bytesOf high) ≡ 0
+high-opens : openAnswer (bytesOf 1 high) ≡ 0
 unfolding high blockAWith definitions
 high-opens = refl
 
-high-refused : opens refusing129 (bytesOf high) ≡ 6
+high-refused : opens refusing129 (bytesOf 1 high) ≡ 6
 unfolding high blockAWith definitions
 high-refused = refl
 
 pub still-refusing : Demand1 refusing129 → ⊥
 still-refusing meets =
-    let never : _≡_ {A = ℕ} 6 0 = sym high-refused ∙ meets .numbers .open-number (bytesOf high) ∙ high-opens in
+    let never : _≡_ {A = ℕ} 6 0 = sym high-refused ∙ meets .numbers .open-number (bytesOf 1 high) ∙ high-opens in
     omega arith

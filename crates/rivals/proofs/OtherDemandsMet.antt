@@ -5,6 +5,7 @@ use Prim.Native.Nat.{ℕ, zero, suc}
 use mathlib.Core.List.{List, []}
 use mathlib.Core.Path.{_≡_, refl, _∙_}
 use native.Mathlib.Omega.{arith}
+use Rattle.rows.specs.Rows.{version}
 use Rattle.layout.specs.Layout.{fieldsOf, bytesOf}
 use Rattle.ring.specs.Ring.{siteOf, ringWith}
 use Rattle.triangulation.specs.Triangulation.{Tri}
@@ -75,7 +76,7 @@ answered-alone given (suc n) h = refl
 pub fanned-1 : (fan : ℕ → Tri) → Demand1 (fanning fan)
 fanned-1 fan = remove-1 _
     (λ block out e f. answered-number (givenBy fan (fieldsOf block) (siteOf (fieldsOf block) e f)) (removeAnswer block out e f) refl)
-    (λ block out e f h. kept-out (removeAnswer block out e f) (bytesOf (patchBy fan (siteOf (fieldsOf block) e f))) out h)
+    (λ block out e f h. kept-out (removeAnswer block out e f) (bytesOf (version block) (patchBy fan (siteOf (fieldsOf block) e f))) out h)
     (λ block out e f h. answered-alone (givenBy fan (fieldsOf block) (siteOf (fieldsOf block) e f)) (removeAnswer block out e f) h)
 
 invented-number : (upright flat inverted : ℕ) (block : List ℕ)
@@ -113,7 +114,7 @@ invented-counts-1 upright flat inverted = record {
 -- a kernel that refuses all, with whatever numbers, refuses where the table gives 0
 pub refuses-all-1 : (number : List ℕ → List ℕ → ℕ → ℕ → ℕ) → Demand1 (refusing number) → ⊥
 refuses-all-1 number meets =
-    let never : suc (number (bytesOf blockA) blank 0 1) ≡ 0 = meets .numbers .remove-number (bytesOf blockA) blank 0 1 ∙ done-A in
+    let never : suc (number (bytesOf 1 blockA) blank 0 1) ≡ 0 = meets .numbers .remove-number (bytesOf 1 blockA) blank 0 1 ∙ done-A in
     omega arith
 
 -- ---- demand 2

@@ -39,35 +39,35 @@ removal-shut k block n its table told other meets = other (sym told ∙ meets .n
 -- the joint, whose first two rows are copper: 20
 pub two-looked-at : Demand1 lookingAtTwo → ⊥
 unfolding ours jointOf joint definitions
-two-looked-at = removal-shut lookingAtTwo (bytesOf joint) 20 0 refl refl (λ e. omega arith)
+two-looked-at = removal-shut lookingAtTwo (bytesOf 1 joint) 20 0 refl refl (λ e. omega arith)
 
 -- a full block: 20 too
 pub room-first : Demand1 roomFirst → ⊥
 unfolding ours strip sixRing fullOfTwo definitions
-room-first = removal-shut roomFirst (bytesOf fullOfTwo) 20 14 refl refl (λ e. omega arith)
+room-first = removal-shut roomFirst (bytesOf 1 fullOfTwo) 20 14 refl refl (λ e. omega arith)
 
 -- the face 0, 1, 2 of the joint, between copper and epoxy: 20
 pub several-flipped : Demand1 flippingSeveral → ⊥
 unfolding ours jointOf joint definitions
-several-flipped = shut flippingSeveral (bytesOf joint) (0 ∷ 1 ∷ 2 ∷ []) 20 0 refl refl (λ e. omega arith)
+several-flipped = shut flippingSeveral (bytesOf 1 joint) (0 ∷ 1 ∷ 2 ∷ []) 20 0 refl refl (λ e. omega arith)
 
 -- ---- by the total D of a region
 
-taken-joint : removes takingSeveral (bytesOf joint) blank 0 1 ≡ 0
+taken-joint : removes takingSeveral (bytesOf 1 joint) blank 0 1 ≡ 0
 unfolding ours jointOf joint definitions
 taken-joint = refl
 
 -- the copper of the joint
-copper-before : let patch = fieldsOf (bytesOf joint) in regionD (patch .points) 1 (patch .rows) ≡ pos 1728
+copper-before : let patch = fieldsOf (bytesOf 1 joint) in regionD (patch .points) 1 (patch .rows) ≡ pos 1728
 unfolding jointOf joint totalD definitions
 copper-before = refl
 
 -- all of it is copper then
-copper-after : let patch = fieldsOf (takingSeveral .remove (bytesOf joint) blank 0 1 .1) in regionD (patch .points) 1 (patch .rows) ≡ pos 3456
+copper-after : let patch = fieldsOf (takingSeveral .remove (bytesOf 1 joint) blank 0 1 .1) in regionD (patch .points) 1 (patch .rows) ≡ pos 3456
 unfolding ours jointOf joint totalD definitions
 copper-after = refl
 
 pub several-taken : Demand2 takingSeveral → ⊥
 several-taken meets =
-    let volumes = meets .remove (bytesOf joint) blank 0 1 taken-joint .accepted .volumes in
+    let volumes = meets .remove (bytesOf 1 joint) blank 0 1 taken-joint .accepted .volumes in
     omega (arith, ap natAbs (sym copper-after ∙ volumes 1 ∙ copper-before))

@@ -12,12 +12,14 @@ use Rattle.lists.specs.Lists.{every, any}
 use Rattle.volume.specs.declared.Point.{Point}
 use Rattle.rows.specs.declared.Row.{Row}
 use Rattle.rows.specs.RowMeasure.{totalD}
+use Rattle.marking.specs.Marking.{newMark}
 use Rattle.layout.specs.Layout.{fieldsOf, bytesOf}
 use Rattle.triangulation.specs.Triangulation.{Triangle}
 use Rattle.polygon.specs.Polygon.{sides, overtakes, cross, sameTriangle, overlap, apart, within, cuts}
+use Rattle.kept_marks.proofs.DressedRows.{dress-total}
 use Rattle.accepted.specs.Accepted.{Accepted}
 use Rattle.demands.specs.Kernels.{removes}
-use Rattle.demands.specs.TriangleSets.{tableBy}
+use Rattle.demands.specs.TriangleSets.{rowsOf, tableMade}
 use Rattle.demands.specs.Premises.{edgeAt}
 use Rattle.demands.specs.RingTotals.{Surrounded, volumeAt, firstOf, lastOf, totalOf}
 use Rattle.demands.specs.Demands.{Demand2}
@@ -35,18 +37,20 @@ use Rattle.rivals.proofs.ShutOut.{done-too}
 -- what is left of a chain by any triangles is accepted only if the chain is flat
 pub accepted-flat : (block output : List ℕ) (e f : ℕ) (vs : List ℕ) (goes : Row → Bool) (new : List Row) (ts : List Triangle)
     → Surrounded (fieldsOf block) e f false vs → T (cuts (length vs) ts)
-    → fieldsOf output .rows ≡ tableBy (edgeAt (fieldsOf block) e f false vs) ts
+    → fieldsOf output .rows ≡ tableMade (edgeAt (fieldsOf block) e f false vs) ts
     → Accepted block output goes new → volumeAt (fieldsOf block) e f (firstOf vs) (lastOf vs) ≡ pos 0
 accepted-flat block output e f vs goes new ts given h rows accepted =
+    let site = edgeAt (fieldsOf block) e f false vs in
     ring-totals .only-flat (fieldsOf block) e f vs given ts h
-    (ap (λ (points : List Point). totalD points (tableBy (edgeAt (fieldsOf block) e f false vs) ts)) (sym (accepted .points))
+    (sym (dress-total (newMark (site .removed) (site .kept)) (site .points) (site .kept) (rowsOf site ts))
+    ∙ ap (λ (points : List Point). totalD points (tableMade site ts)) (sym (accepted .points))
     ∙ ap (totalD (fieldsOf output .points)) (sym rows)
     ∙ accepted .volume)
 
 -- ---- one that takes the bent plate
 
 abbrev bentBlock : List ℕ
-bentBlock = bytesOf bentPlate
+bentBlock = bytesOf 1 bentPlate
 
 abbrev bentChain : List ℕ
 bentChain = 3 ∷ 5 ∷ 4 ∷ 2 ∷ []
@@ -66,7 +70,7 @@ bent-taken : removes takingBent bentBlock blank 0 1 ≡ 0
 unfolding platePoints plateRows bentPlate definitions
 bent-taken = refl
 
-bent-rows : fieldsOf (takingBent .remove bentBlock blank 0 1 .1) .rows ≡ tableBy (edgeAt (fieldsOf bentBlock) 0 1 false bentChain) bentWay
+bent-rows : fieldsOf (takingBent .remove bentBlock blank 0 1 .1) .rows ≡ tableMade (edgeAt (fieldsOf bentBlock) 0 1 false bentChain) bentWay
 unfolding platePoints plateRows bentPlate definitions
 bent-rows = refl
 
@@ -83,15 +87,15 @@ taken-bent meets =
 
 -- ---- one that turns a new row of block A over: the other is as large
 
-whole-A : totalOf (fieldsOf (bytesOf blockA)) ≡ pos 1728
+whole-A : totalOf (fieldsOf (bytesOf 1 blockA)) ≡ pos 1728
 unfolding blockAWith blockA totalD definitions
 whole-A = refl
 
-turned-A : totalOf (fieldsOf (turningFirst .remove (bytesOf blockA) blank 0 1 .1)) ≡ pos 0
+turned-A : totalOf (fieldsOf (turningFirst .remove (bytesOf 1 blockA) blank 0 1 .1)) ≡ pos 0
 unfolding blockAWith blockA totalD definitions
 turned-A = refl
 
 pub turned-row : Demand2 turningFirst → ⊥
 turned-row meets =
-    let volume = meets .remove (bytesOf blockA) blank 0 1 (done-too (bytesOf blockA) done-A) .accepted .volume in
+    let volume = meets .remove (bytesOf 1 blockA) blank 0 1 (done-too (bytesOf 1 blockA) done-A) .accepted .volume in
     omega (arith, ap natAbs (sym turned-A ∙ volume ∙ whole-A))

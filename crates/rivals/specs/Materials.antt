@@ -6,14 +6,12 @@ use lib.Dec.{eqb}
 use lib.ListN.{getD, take, drop}
 use Rattle.lists.specs.Lists.{those}
 use Rattle.rows.specs.declared.Row.{Row}
-use Rattle.rows.specs.Rows.{noRow}
+use Rattle.rows.specs.Rows.{version, noRow}
 use Rattle.rows.specs.Regions.{mixed}
 use Rattle.layout.specs.Layout.{Patch, fieldsOf, bytesOf}
 use Rattle.answers.specs.Answers.{Tests, firstRefusal, answerOf, written}
 use Rattle.ring.specs.Ring.{Site, siteOf, orChains, edgeTests, lengthTests, notFlat}
-use Rattle.triangulation.specs.Triangulation.{newRows}
-use Rattle.triangulation.specs.Best.{chosen}
-use Rattle.calls.specs.Removing.{blockTests, noRoom, noWay, noneBetter, patchAfter}
+use Rattle.calls.specs.Removing.{blockTests, markLost, noRoom, noWay, noneBetter, rowsMade, patchAfter}
 use Rattle.calls.specs.Flipping.{flipTests, patchFlipped}
 use Rattle.demands.specs.Kernels.{Kernel}
 use Rattle.full_blocks.specs.FullBlocks.{sixRing}
@@ -29,18 +27,28 @@ removing tests after = withRemove (λ block out e f.
     let patch = fieldsOf block in
     let site = siteOf patch e f in
     let answer = firstRefusal (blockTests block out ++ edgeTests orChains site e f ++ lengthTests site ++ tests site) in
-    (answered (doneWith patch site (after site)) answer, written answer (bytesOf (after site)) out))
+    (answered (doneWith patch site (after site)) answer, written answer (bytesOf (version block) (after site)) out))
 
 -- one that looks at two of the rows that go
 abbrev pub lookingAtTwo : Kernel
 lookingAtTwo = removing (λ site.
-    (19, notFlat site) ∷ (20, mixed (take 2 (site .removed))) ∷ (14, noRoom site) ∷ (15, noWay site) ∷ (16, noneBetter site) ∷ [])
+    (19, notFlat site)
+    ∷ (20, mixed (take 2 (site .removed)))
+    ∷ (23, markLost site)
+    ∷ (14, noRoom site)
+    ∷ (15, noWay site)
+    ∷ (16, noneBetter site) ∷ [])
     patchAfter
 
 -- one that tests 20 after room
 abbrev pub roomFirst : Kernel
 roomFirst = removing (λ site.
-    (19, notFlat site) ∷ (14, noRoom site) ∷ (20, mixed (site .removed)) ∷ (15, noWay site) ∷ (16, noneBetter site) ∷ [])
+    (19, notFlat site)
+    ∷ (14, noRoom site)
+    ∷ (20, mixed (site .removed))
+    ∷ (23, markLost site)
+    ∷ (15, noWay site)
+    ∷ (16, noneBetter site) ∷ [])
     patchAfter
 
 -- the row in a region
@@ -49,9 +57,10 @@ inOne region row = record { p = row .p; q = row .q; r = row .r; s = row .s; regi
 
 -- one that takes every ring and chain, and gives the new rows the region of one row that went
 abbrev pub takingSeveral : Kernel
-takingSeveral = removing (λ site. (19, notFlat site) ∷ (14, noRoom site) ∷ (15, noWay site) ∷ (16, noneBetter site) ∷ []) (λ site. record {
+takingSeveral = removing (λ site.
+    (19, notFlat site) ∷ (23, markLost site) ∷ (14, noRoom site) ∷ (15, noWay site) ∷ (16, noneBetter site) ∷ []) (λ site. record {
   points = site .points;
-  rows = site .kept ++ map (inOne ((getD (site .removed) 0 noRow) .region)) (newRows site 1 (chosen site));
+  rows = site .kept ++ map (inOne ((getD (site .removed) 0 noRow) .region)) (rowsMade site);
 })
 
 -- ---- the flip
@@ -62,7 +71,7 @@ flippingSeveral = withFlip (λ block out numbers.
     let patch = fieldsOf block in
     let tests = those (λ test. not (eqb (test .0) 20)) (flipTests patch numbers) in
     let answer = firstRefusal (blockTests block out ++ tests) in
-    (answerOf answer, written answer (bytesOf (patchFlipped patch numbers)) out))
+    (answerOf answer, written answer (bytesOf (version block) (patchFlipped patch numbers)) out))
 
 -- ---- a block that shows one of them up
 

@@ -1,13 +1,16 @@
 -- Five useless kernels that the demands have to shut out, each ours but for one call; and the blocks that show them up.
 use Prim.Native.Nat.{ℕ, zero, suc, _-_}
-use mathlib.Core.List.{List, [], _∷_}
+use mathlib.Core.List.{List, [], _∷_, _++_}
 use mathlib.Core.Option.{none, some}
 use Rattle.page.specs.Page.{shown, pageRow}
+use Rattle.rows.specs.declared.Row.{Row}
+use Rattle.rows.specs.Rows.{version}
+use Rattle.marking.specs.Marking.{dressed}
 use Rattle.layout.specs.Layout.{Patch, fieldsOf, bytesOf}
 use Rattle.block.specs.Opening.{openAnswer}
 use Rattle.answers.specs.Answers.{written}
 use Rattle.ring.specs.Ring.{Site, siteOf, m, ringWith}
-use Rattle.triangulation.specs.Triangulation.{Tri, side, cut, tableAfter}
+use Rattle.triangulation.specs.Triangulation.{Tri, side, cut, newRows}
 use Rattle.triangulation.specs.Best.{apex}
 use Rattle.summary.specs.Summary.{summaryOf}
 use Rattle.tally.specs.Tally.{worstOfPatch}
@@ -85,8 +88,12 @@ fanLast (suc (suc n)) = cut side (fanLast (suc n))
 unfoldable pub fanned : (ℕ → Tri) → Site → Tri
 fanned fan site = elim (apex site 1 (m site)) [ none ↦ side | some k ↦ cut (fan (k - 1)) (fan (m site - k)) ]
 
+-- the table with the rows of that way, with their marks
+abbrev pub tableFanned : (ℕ → Tri) → Site → List Row
+tableFanned fan site = site .kept ++ dressed (site .removed) (site .kept) (newRows site 1 (fanned fan site))
+
 abbrev pub patchBy : (ℕ → Tri) → Site → Patch
-patchBy fan site = record { points = site .points; rows = tableAfter site (fanned fan site) }
+patchBy fan site = record { points = site .points; rows = tableFanned fan site }
 
 -- what a removal that leaves a patch gives: the true page row, and the ring
 abbrev pub doneWith : Patch → Site → Patch → Removed
@@ -109,7 +116,7 @@ fanning fan = withRemove (λ block out e f.
     let patch = fieldsOf block in
     let site = siteOf patch e f in
     let answer = removeAnswer block out e f in
-    (answered (givenBy fan patch site) answer, written answer (bytesOf (patchBy fan site)) out))
+    (answered (givenBy fan patch site) answer, written answer (bytesOf (version block) (patchBy fan site)) out))
 
 -- ---- a block where both fans lose: six rows round 0, 1; the best way and both fans are better than what is there
 

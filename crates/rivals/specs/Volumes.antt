@@ -5,12 +5,11 @@ use mathlib.Core.List.{List, [], _∷_, _++_}
 use lib.Dec.{eqb}
 use Rattle.lists.specs.Lists.{those}
 use Rattle.rows.specs.declared.Row.{Row}
+use Rattle.rows.specs.Rows.{version}
 use Rattle.layout.specs.Layout.{Patch, fieldsOf, bytesOf}
 use Rattle.answers.specs.Answers.{Tests, firstRefusal, written}
 use Rattle.ring.specs.Ring.{Site, siteOf, orChains, edgeTests}
-use Rattle.triangulation.specs.Triangulation.{newRows}
-use Rattle.triangulation.specs.Best.{chosen}
-use Rattle.calls.specs.Removing.{blockTests, removalTests, patchAfter, removeAnswer, removeGives}
+use Rattle.calls.specs.Removing.{blockTests, removalTests, rowsMade, patchAfter, removeAnswer, removeGives}
 use Rattle.demands.specs.Kernels.{Kernel}
 use Rattle.rivals.specs.Useless.{withRemove, doneWith, answered}
 
@@ -29,7 +28,7 @@ takingBent = withRemove (λ block out e f.
     let site = siteOf patch e f in
     let after = patchAfter site in
     let answer = firstRefusal (otherTests block out e f) in
-    (answered (doneWith patch site after) answer, written answer (bytesOf after) out))
+    (answered (doneWith patch site after) answer, written answer (bytesOf (version block) after) out))
 
 -- ---- one that writes a new row with two numbers exchanged
 
@@ -40,10 +39,10 @@ firstTurned (row ∷ rows) = record { p = row .p; q = row .q; r = row .s; s = ro
 
 -- the patch afterwards, with the first new row so
 abbrev pub patchTurned : Site → Patch
-patchTurned site = record { points = site .points; rows = site .kept ++ firstTurned (newRows site 1 (chosen site)) }
+patchTurned site = record { points = site .points; rows = site .kept ++ firstTurned (rowsMade site) }
 
 -- it gives what ours gives, and writes that
 abbrev pub turningFirst : Kernel
 turningFirst = withRemove (λ block out e f.
     let site = siteOf (fieldsOf block) e f in
-    (removeGives block out e f, written (removeAnswer block out e f) (bytesOf (patchTurned site)) out))
+    (removeGives block out e f, written (removeAnswer block out e f) (bytesOf (version block) (patchTurned site)) out))

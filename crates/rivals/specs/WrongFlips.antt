@@ -2,6 +2,7 @@
 use Prim.Native.Nat.{ℕ}
 use mathlib.Core.List.{List, [], _∷_, _++_}
 use lib.ListN.{length, take}
+use Rattle.rows.specs.Rows.{version}
 use Rattle.layout.specs.Layout.{fieldsOf, bytesOf}
 use Rattle.answers.specs.declared.Answer.{Answer}
 use Rattle.answers.specs.declared.Answer.the-variants.{Refused}
@@ -34,7 +35,7 @@ numberingFirst = withFlip (λ block out numbers.
     let patch = fieldsOf block in
     let bad = numbersWrong (length (patch .points)) numbers in
     let answer = firstRefusal (blockTests block out ++ (9, bad) ∷ flipTests patch numbers) in
-    (answerOf answer, written answer (bytesOf (patchFlipped patch numbers)) out))
+    (answerOf answer, written answer (bytesOf (version block) (patchFlipped patch numbers)) out))
 
 -- one that takes four numbers, or more, for three
 abbrev pub takingFour : Kernel
