@@ -7,13 +7,11 @@ use borrow.Author.Tests.{eq-eqb, ne-eqb}
 use lib.ListN.{length, take, replicate}
 use Rattle.layout.specs.Layout.{blockBytes, byte, fieldsOf}
 use Rattle.ring.specs.Ring.{Site, siteOf}
-use Rattle.triangulation.specs.Triangulation.{newRows}
-use Rattle.triangulation.specs.Best.{chosen}
 use Rattle.summary.specs.declared.Summary.{Summary}
 use Rattle.summary.specs.Summary.{summaryOf}
 use Rattle.calls.specs.declared.Summarised.the-variants.{Summary as Summed}
 use Rattle.calls.specs.Summarising.{summaryGives}
-use Rattle.calls.specs.Removing.{removeAnswer, removeBytes}
+use Rattle.calls.specs.Removing.{rowsMade, removeAnswer, removeBytes}
 use Rattle.lines.specs.Lines.{line, summaryFields, answerLine, ringLine, rowLine}
 use Rattle.printout.specs.Printout.{report, printout}
 use Rattle.calls.proofs.CallTests.{removes}
@@ -60,7 +58,7 @@ pub record Reported (block output : List ℕ) (site : Site) : Type 0 where
   pub after-is : summaryGives output ≡ Summed after
   pub lines : report block output site
       ≡ line "before" (summaryFields before) ++ line "after" (summaryFields after) ++ ringLine (site .ring)
-      ++ flatMap rowLine (newRows site 1 (chosen site))
+      ++ flatMap rowLine (rowsMade site)
 
 -- the printed `after` is the summary of the written block
 pub reported : (block out : List ℕ) (e f : ℕ) → removeAnswer block out e f ≡ 0
