@@ -8,12 +8,12 @@ use Rattle.lists.specs.Lists.{sum}
 use Rattle.counts.specs.declared.Counts.{Counts}
 use Rattle.counts.specs.declared.Cell.{Cell}
 
--- the calls, and the answers 0 to 21
+-- the calls, and the answers 0 to 23
 abbrev pub calls : ℕ
 calls = 5
 
 abbrev pub answers : ℕ
-answers = 22
+answers = 24
 
 -- no case of any call and answer
 abbrev pub noCases : Counts

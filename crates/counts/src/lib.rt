@@ -6,8 +6,8 @@ ghost use Rattle.counts.specs.CaseCounts.{calls, answers, noCases, withO
 // open, seal, summary, remove, flip.
 const CALLS: usize = 5;
 
-// 0 to 21.
-const ANSWERS: usize = 22;
+// 0 to 23.
+const ANSWERS: usize = 24;
 
 pub const CELLS: usize = CALLS * ANSWERS;
 

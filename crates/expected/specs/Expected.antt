@@ -18,10 +18,11 @@ ringIs ring stored = eqb (ring .m) (lengthIn stored) && same eqb (ring .v) (part
 -- the fields are those that are stored in their places of the block
 unfoldable pub fieldsAre : Fields → List ℕ → Bool
 fieldsAre fields stored =
-    eqb (fields .points) (getD stored (outputAt + 1) 0)
+    eqb (fields .version) (getD stored outputAt 0)
+    && (eqb (fields .points) (getD stored (outputAt + 1) 0)
     && (eqb (fields .rows) (getD stored (outputAt + 2) 0)
     && (same eqb (fields .coordinates) (partIn stored (outputAt + pointsAt) (rowsAt - pointsAt))
-    && same eqb (fields .table) (partIn stored (outputAt + rowsAt) (bodyBytes - rowsAt))))
+    && same eqb (fields .table) (partIn stored (outputAt + rowsAt) (bodyBytes - rowsAt)))))
 
 -- every byte of the output is the stored one
 abbrev pub outputIs : List ℕ → List ℕ → Bool

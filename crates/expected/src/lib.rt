@@ -68,6 +68,9 @@ pub fn fields_are(fields: Fields, stored: &[u8]) -> bool
     requires { ⌜ length (now stored) ≡ recordBytes ⌝ }
     ensures { λ r. ⌜ r ≡ fieldsAre fields (now (stored .entry)) ⌝ }
 {
+    if fields.version != stored[OUTPUT_AT] {
+        return false;
+    }
     if fields.points != stored[OUTPUT_AT + 1] {
         return false;
     }

@@ -63,35 +63,26 @@ shared-slice-read-fill c = omega (arith, size (c .before .before))
 cast-fill : tie.Need-cast-fill
 cast-fill c = omega (arith, c .shared-slice-known2 .given 1)
 
-sub-fill-2 : tie.Need-sub-fill-2
-sub-fill-2 c = search needs
-
-part-fill-start-2 : tie.Need-part-fill-start-2
-part-fill-start-2 c = search needs
-
-part-fill-end-2 : tie.Need-part-fill-end-2
-part-fill-end-2 c = omega (arith, size (c .before .before))
-
 shared-slice-read-fill-2 : tie.Need-shared-slice-read-fill-2
-shared-slice-read-fill-2 c = omega (arith, size (c .before .before .before .before))
+shared-slice-read-fill-2 c = omega (arith, size (c .before .before .before))
 
 cast-fill-2 : tie.Need-cast-fill-2
 cast-fill-2 c = omega (arith, c .shared-slice-known3 .given 2)
 
 cast-fill-3 : tie.Need-cast-fill-3
-cast-fill-3 c = let (low, high) = ends (c .before .before .before .before) in omega arith
+cast-fill-3 c = let (low, high) = ends (c .before .before .before) in omega arith
 
 cast-fill-4 : tie.Need-cast-fill-4
-cast-fill-4 c = let (low, high) = ends (c .before .before .before .before) in omega arith
+cast-fill-4 c = let (low, high) = ends (c .before .before .before) in omega arith
 
 fill-requires : tie.Need-fill-requires
 fill-requires c κs =
-    let k = c .before .before .before .before in
+    let k = c .before .before .before in
     ready (blockOf k) (eOf k) (fOf k) _ (k .before .before .ring-at .ensures) (k .if1 .left)
 
 cell-at-requires : tie.Need-cell-at-requires
 cell-at-requires c κs =
-    let k = c .before .before .before .before .before in
+    let k = c .before .before .before .before in
     let (long, short) = ring-length (blockOf k) (eOf k) (fOf k) _ (k .before .before .ring-at .ensures) (k .if1 .left) _ (c .fill .ensures) in
     (omega arith, omega arith, omega arith)
 
@@ -104,7 +95,7 @@ cast-result c = search needs
 returns-2 : tie.Need-returns-2
 returns-2 c =
     let filled = c .before .before in
-    let k = filled .before .before .before .before .before in
+    let k = filled .before .before .before .before in
     ap (λ at. getD (filled .fill .result .apexes) at 0) (c .before .cell-at .ensures .0)
     ∙ top (blockOf k) (eOf k) (fOf k) _ (k .before .before .ring-at .ensures) (k .if1 .left) _ (filled .fill .ensures)
 
@@ -119,9 +110,6 @@ apex-at-spec =
     part-fill-end
     shared-slice-read-fill
     cast-fill
-    sub-fill-2
-    part-fill-start-2
-    part-fill-end-2
     shared-slice-read-fill-2
     cast-fill-2
     cast-fill-3

@@ -82,40 +82,31 @@ returns-3 c =
     c .no-ring3 .ensures
     ∙ over (blockOf k) (eOf k) (fOf k) (in-order k) _ (k .before .before .before .opening .ensures) (k .before .enum-told .given .1) (c .before .if2 .taken)
 
-sub-find : tie.Need-sub-find
-sub-find c = search needs
-
-part-find-start : tie.Need-part-find-start
-part-find-start c = search needs
-
-part-find-end : tie.Need-part-find-end
-part-find-end c = omega (arith, whole (c .before))
-
 shared-slice-read-find : tie.Need-shared-slice-read-find
-shared-slice-read-find c = omega (arith, whole (c .before .before .before))
+shared-slice-read-find c = omega (arith, whole (c .before .before))
 
 cast-find : tie.Need-cast-find
 cast-find c = omega (arith, c .shared-slice-known3 .given 2)
 
 cast-find-2 : tie.Need-cast-find-2
 cast-find-2 c =
-    let k = c .before .before .before in omega (arith, in-order k, c .before .before .if2 .left, k .shared-slice-known2 .given 1)
+    let k = c .before .before in omega (arith, in-order k, c .before .if2 .left, k .shared-slice-known2 .given 1)
 
 cast-find-3 : tie.Need-cast-find-3
 cast-find-3 c =
-    let k = c .before .before .before in omega (arith, c .before .before .if2 .left, k .shared-slice-known2 .given 1)
+    let k = c .before .before in omega (arith, c .before .if2 .left, k .shared-slice-known2 .given 1)
 
 find-requires : tie.Need-find-requires
 find-requires c κs =
-    let k = c .before .before .before in
+    let k = c .before .before in
     tabled (blockOf k) (eOf k) (fOf k) (in-order k) _ (k .before .before .before .opening .ensures) (k .before .enum-told .given .1)
 
 returns-4 : tie.Need-returns-4
 returns-4 c =
     let called = c .before in
-    let k = called .before .before .before .before in
+    let k = called .before .before .before in
     ring-found (blockOf k) (eOf k) (fOf k) (in-order k) _ (k .before .before .before .opening .ensures) (k .before .enum-told .given .1)
-    (called .before .before .before .if2 .left) _ (called .find .ensures)
+    (called .before .before .if2 .left) _ (called .find .ensures)
 
 pub ring-at-spec : {M : Type 1} → statement M
 ring-at-spec =
@@ -132,9 +123,6 @@ ring-at-spec =
     cast-if2
     no-ring-requires-3
     returns-3
-    sub-find
-    part-find-start
-    part-find-end
     shared-slice-read-find
     cast-find
     cast-find-2

@@ -1,4 +1,4 @@
--- The counts, the coordinates and the rows, one after the other.
+-- The version, the counts, the coordinates and the rows, one after the other.
 use mathlib.Core.Path.{_∙_}
 use borrow.Author.Tests.{eq-eqb, ne-eqb}
 use Rattle.expected.specs.Expected.{fieldsAre}
@@ -6,9 +6,6 @@ use Rattle.expected.proofs.TestsInTurn.{fails, passes, failed, passed}
 use borrow.Author.Needs.{needs}
 use Rattle.expected.proofs.fields_are.Statement.{statement}
 use Rattle.expected.proofs.fields_are.Tie as tie
-
-add-if1 : tie.Need-add-if1
-add-if1 c = search needs
 
 shared-slice-read-if1 : tie.Need-shared-slice-read-if1
 shared-slice-read-if1 c = search needs
@@ -26,6 +23,19 @@ shared-slice-read-if2 c = search needs
 returns-2 : tie.Need-returns-2
 unfolding fieldsAre
 returns-2 c = fails _ (ne-eqb _ _ (c .if2 .taken)) ∙ passes (eq-eqb _ _ (c .before .before .before .if1 .left))
+
+add-if3 : tie.Need-add-if3
+add-if3 c = search needs
+
+shared-slice-read-if3 : tie.Need-shared-slice-read-if3
+shared-slice-read-if3 c = search needs
+
+returns-3 : tie.Need-returns-3
+unfolding fieldsAre
+returns-3 c =
+    fails _ (ne-eqb _ _ (c .if3 .taken))
+    ∙ passes (eq-eqb _ _ (c .before .before .before .if2 .left))
+    ∙ passes (eq-eqb _ _ (c .before .before .before .before .before .before .if1 .left))
 
 slice-aggregate-same : tie.Need-slice-aggregate-same
 slice-aggregate-same c = search needs
@@ -48,12 +58,13 @@ part-same-end c = search needs
 same-requires : tie.Need-same-requires
 same-requires c κs = search needs
 
-returns-3 : tie.Need-returns-3
+returns-4 : tie.Need-returns-4
 unfolding fieldsAre
-returns-3 c =
-    fails _ (failed (c .before .same .ensures) (c .if3 .taken))
-    ∙ passes (eq-eqb _ _ (c .before .before .before .before .before .if2 .left))
-    ∙ passes (eq-eqb _ _ (c .before .before .before .before .before .before .before .before .if1 .left))
+returns-4 c =
+    fails _ (failed (c .before .same .ensures) (c .if4 .taken))
+    ∙ passes (eq-eqb _ _ (c .before .before .before .before .before .if3 .left))
+    ∙ passes (eq-eqb _ _ (c .before .before .before .before .before .before .before .before .if2 .left))
+    ∙ passes (eq-eqb _ _ (c .before .before .before .before .before .before .before .before .before .before .before .if1 .left))
 
 slice-aggregate-same-2 : tie.Need-slice-aggregate-same-2
 slice-aggregate-same-2 c = search needs
@@ -76,24 +87,27 @@ part-same-end-2 c = search needs
 same-requires-2 : tie.Need-same-requires-2
 same-requires-2 c κs = search needs
 
-returns-4 : tie.Need-returns-4
+returns-5 : tie.Need-returns-5
 unfolding fieldsAre
-returns-4 c =
+returns-5 c =
     c .same2 .ensures
-    ∙ passes (passed (c .before .before .before .before .before .same .ensures) (c .before .before .before .before .if3 .left))
-    ∙ passes (eq-eqb _ _ (c .before .before .before .before .before .before .before .before .before .if2 .left))
-    ∙ passes (eq-eqb _ _ (c .before .before .before .before .before .before .before .before .before .before .before .before .if1 .left))
+    ∙ passes (passed (c .before .before .before .before .before .same .ensures) (c .before .before .before .before .if4 .left))
+    ∙ passes (eq-eqb _ _ (c .before .before .before .before .before .before .before .before .before .if3 .left))
+    ∙ passes (eq-eqb _ _ (c .before .before .before .before .before .before .before .before .before .before .before .before .if2 .left))
+    ∙ passes (eq-eqb _ _ (c .before .before .before .before .before .before .before .before .before .before .before .before .before .before .before .if1 .left))
 
 pub fields-are-spec : {M : Type 1} → statement M
 fields-are-spec =
     tie.close
     (tie.spec
-    add-if1
     shared-slice-read-if1
     returns
     add-if2
     shared-slice-read-if2
     returns-2
+    add-if3
+    shared-slice-read-if3
+    returns-3
     slice-aggregate-same
     add-same
     add-same-2
@@ -101,7 +115,7 @@ fields-are-spec =
     part-same-start
     part-same-end
     same-requires
-    returns-3
+    returns-4
     slice-aggregate-same-2
     add-same-3
     add-same-4
@@ -109,4 +123,4 @@ fields-are-spec =
     part-same-start-2
     part-same-end-2
     same-requires-2
-    returns-4)
+    returns-5)
