@@ -13,7 +13,7 @@ use Rattle.block.specs.Opening.{openAnswer}
 use Rattle.block.proofs.OpenedAndSealed.{open-list}
 use Rattle.calls.specs.declared.Removed.{Removed}
 use Rattle.calls.specs.Summarising.{summaryNumber}
-use Rattle.calls.specs.Removing.{removeAnswer, removalNumber}
+use Rattle.calls.specs.Removing.{patchAfter, removeAnswer, removalNumber}
 use Rattle.demands.specs.Demands.{Demand1, Demand2, Demand3}
 use Rattle.accepted.proofs.CallsNumbered.{kept-out, remove-listed, remove-number, gives-no-ring}
 use Rattle.demands.proofs.Demand1.{numbered, demand-1}
@@ -21,6 +21,7 @@ use Rattle.demands.proofs.Demand2.{demand-2}
 use Rattle.demands.proofs.Demand3.{demand-3}
 use Rattle.facts.specs.Facts.{blank, blockA}
 use Rattle.rivals.specs.Useless.{withRemove, refusing, fixing, copying, inventing, fanning, givenBy, answered, patchBy}
+use Rattle.rivals.specs.MarksLost.{patchPlain, droppingMarks, writingVersion1}
 use Rattle.rivals.proofs.RivalBlocks.{done-A}
 
 -- ---- demand 1
@@ -64,6 +65,15 @@ fixed-block-1 fixed = remove-1 _ remove-number
 pub copied-input-1 : Demand1 copying
 copied-input-1 = remove-1 _ remove-number
     (λ block out e f h. kept-out (removeAnswer block out e f) block out h) gives-no-ring
+
+pub marks-dropped-1 : Demand1 droppingMarks
+marks-dropped-1 = remove-1 _ remove-number
+    (λ block out e f h.
+    kept-out (removeAnswer block out e f) (bytesOf (version block) (patchPlain (siteOf (fieldsOf block) e f))) out h) gives-no-ring
+
+pub version-lost-1 : Demand1 writingVersion1
+version-lost-1 = remove-1 _ remove-number
+    (λ block out e f h. kept-out (removeAnswer block out e f) (bytesOf 1 (patchAfter (siteOf (fieldsOf block) e f))) out h) gives-no-ring
 
 answered-number : (given : Removed) (n : ℕ) → removalNumber (given .removal) ≡ 0 → removalNumber (answered given n .removal) ≡ n
 answered-number given zero h = h

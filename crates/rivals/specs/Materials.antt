@@ -59,9 +59,9 @@ inOne region row = record { p = row .p; q = row .q; r = row .r; s = row .s; regi
 abbrev pub takingSeveral : Kernel
 takingSeveral = removing (λ site.
     (19, notFlat site) ∷ (23, markLost site) ∷ (14, noRoom site) ∷ (15, noWay site) ∷ (16, noneBetter site) ∷ []) (λ site. record {
-  points = site .points;
-  rows = site .kept ++ map (inOne ((getD (site .removed) 0 noRow) .region)) (rowsMade site);
-})
+      points = site .points;
+      rows = site .kept ++ map (inOne ((getD (site .removed) 0 noRow) .region)) (rowsMade site);
+    })
 
 -- ---- the flip
 
