@@ -120,13 +120,13 @@ extern "C" {
  * The bytes of stack that a call needs below its caller's frame, whatever its input: measured on x86-64 and on Arm, the
  * larger of both. memcpy and memset are counted as taking none of their own.
  */
-#define SUMPNEWT_STACK_OPEN 1144
-#define SUMPNEWT_STACK_SEAL 1160
-#define SUMPNEWT_STACK_SUMMARY 1352
-#define SUMPNEWT_STACK_SHOWN 1240
-#define SUMPNEWT_STACK_REMOVE 3480
-#define SUMPNEWT_STACK_PAGE 3784
-#define SUMPNEWT_STACK_FLIP 3480
+#define SUMPNEWT_STACK_OPEN 1192
+#define SUMPNEWT_STACK_SEAL 1208
+#define SUMPNEWT_STACK_SUMMARY 1416
+#define SUMPNEWT_STACK_SHOWN 1304
+#define SUMPNEWT_STACK_REMOVE 3512
+#define SUMPNEWT_STACK_PAGE 4040
+#define SUMPNEWT_STACK_FLIP 3688
 
 /* The answers, in the order in which they are tested. */
 enum {
