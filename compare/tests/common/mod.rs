@@ -238,14 +238,16 @@ pub fn with_one_marked(patch: &Patch, numbers: &[u8]) -> Vec<Patch> {
     held.into_iter().map(with).collect()
 }
 
+/// What a case that is refused with 20 or 23 would be answered with otherwise, by its kind.
+const OTHERWISE: [(&str, &[u32]); 4] = [
+    ("ring", &[0, 14, 15, 16]),
+    ("chain", &[0, 14, 15, 16]),
+    ("3-2 flip", &[0, 15]),
+    ("2-3 flip", &[0, 14, 15]),
+];
+
 /// What cases of several regions have to show, by its name in a tally.
 pub fn region_points() -> Vec<String> {
-    let otherwise: [(&str, &[u32]); 4] = [
-        ("ring", &[0, 14, 15, 16]),
-        ("chain", &[0, 14, 15, 16]),
-        ("3-2 flip", &[0, 15]),
-        ("2-3 flip", &[0, 14, 15]),
-    ];
     let before: [(&str, &[u32]); 5] = [
         ("ring", &[13]),
         ("chain", &[13, 19]),
@@ -254,7 +256,7 @@ pub fn region_points() -> Vec<String> {
         ("2-3 flip", &[18]),
     ];
     let mut names = vec![String::from("2-3 flip, 20: the lower four bits agree")];
-    for (kind, numbers) in otherwise {
+    for (kind, numbers) in OTHERWISE {
         names.extend(numbers.iter().map(|n| format!("{kind}, 20: otherwise {n}")));
     }
     for (kind, numbers) in before {
@@ -271,12 +273,6 @@ pub fn region_points() -> Vec<String> {
 
 /// What cases of version 2 have to show, by its name in a tally.
 pub fn mark_points() -> Vec<String> {
-    let otherwise: [(&str, &[u32]); 4] = [
-        ("ring", &[0, 14, 15, 16]),
-        ("chain", &[0, 14, 15, 16]),
-        ("3-2 flip", &[0, 15]),
-        ("2-3 flip", &[0, 14, 15]),
-    ];
     let before: [(&str, &[u32]); 5] = [
         ("ring", &[13, 20]),
         ("chain", &[13, 19, 20]),
@@ -302,7 +298,7 @@ pub fn mark_points() -> Vec<String> {
     ]
     .map(String::from)
     .to_vec();
-    for (kind, numbers) in otherwise {
+    for (kind, numbers) in OTHERWISE {
         names.extend(numbers.iter().map(|n| format!("{kind}, 23: otherwise {n}")));
         let refusals = numbers.iter().filter(|n| **n != 0);
         names.extend(refusals.map(|n| format!("{kind}, {n}: a marked shell")));
