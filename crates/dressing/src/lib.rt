@@ -67,6 +67,9 @@ fn gather(keys: &mut [u32; MOST_KEYS], table: &[u8], n: usize, x: u8, y: u8, z: 
     ensures { λ r. ⌜ (length (now (keys .exit)) ≡ mostKeys) × (r ≤ mostKeys)
         × (take r (now (keys .exit)) ≡ keysMarked (λ row. not (holdsFace (x ∷ y ∷ z ∷ []) row)) (rowsIn (now (table .entry)) n)) ⌝ }
 {
+    if rows::unmarked(table) {
+        return 0;
+    }
     let mut count: usize = 0;
     for i in 0..n {
         let row = rows::row_in(table, i);
