@@ -46,8 +46,8 @@ returns c =
       search needs,
       omega arith,
       sym (no-keys (λ row. not (holdsFace (a .x ∷ a .y ∷ a .z ∷ []) row)) (rowsIn table (a .n)) λ row m.
-      let (i, h, e) = among-rows table (a .n) m in
-      rw e (none i)),
+          let (i, h, e) = among-rows table (a .n) m in
+          rw e (none i)),
     )
 
 loop-holds : tie.Need-loop-holds Inv-loop μ-loop
