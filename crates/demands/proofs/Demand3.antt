@@ -14,13 +14,14 @@ use Rattle.quality.specs.Quality.{worse}
 use Rattle.quality.proofs.QualityOrder.{_⊑_, at-most-self, at-most-trans}
 use Rattle.rows.specs.RowMeasure.{rowQuality}
 use Rattle.rows.proofs.RegionsOfRows.{not-mixed}
+use Rattle.rows.proofs.ProperRows.{row-fraction}
 use Rattle.layout.specs.Layout.{Patch, fieldsOf}
 use Rattle.answers.specs.Answers.{Tests, firstRefusal}
 use Rattle.answers.proofs.ByNumber.{testOf, before}
 use Rattle.ring.specs.Ring.{Site, siteOf, m}
 use Rattle.triangulation.specs.Triangulation.{Tri, triangles, newRows}
 use Rattle.triangulation.specs.Best.{worstOfWay, ringWays, chosen}
-use Rattle.triangulation.proofs.WorstOfWays.{row-fraction, worst-over}
+use Rattle.triangulation.proofs.WorstOfWays.{worst-over}
 use Rattle.triangulation.proofs.WholeRing.{RingWay, BestWay, way-listed, listed-way, worst-row}
 use Rattle.calls.specs.Removing.{worstNow, markLost, noWay, noneBetter, patchAfter, removalTests, removeAnswer, removeBytes}
 use Rattle.calls.specs.Removing.{Sound}

@@ -15,11 +15,12 @@ use Rattle.page.proofs.NearlyExact.{shown-near}
 use Rattle.rows.specs.declared.Row.{Row}
 use Rattle.rows.specs.Rows.{rowsAt, noRow}
 use Rattle.rows.specs.RowMeasure.{rowQuality}
+use Rattle.rows.proofs.ProperRows.{row-proper}
 use Rattle.layout.specs.Layout.{Patch, pointsAt, pointCount, coordinatesOf, fieldsOf}
 use Rattle.layout.specs.Within.{isByte}
 use Rattle.layout.proofs.BytesOfSlices.{part-bytes}
 use Rattle.tally.specs.Tally.{worstOfPatch}
-use Rattle.tally.proofs.RowsInBytes.{row-proper, row-small, worst-has}
+use Rattle.tally.proofs.RowsInBytes.{row-small, worst-has}
 use Rattle.display.proofs.ElementsInOrder.{element-shown}
 use Rattle.demands.specs.Kernels.{Kernel}
 use Rattle.demands.specs.Demands.{Demand2}

@@ -13,7 +13,7 @@ use lib.IntN.{ℤ, pos, negsuc}
 use lib.ListN.{length}
 use Rattle.lists.specs.Lists.{count, those, sum}
 use Rattle.lists.proofs.Tests.{either, is-no}
-use Rattle.lists.proofs.Counts.{ind, count-cons}
+use Rattle.lists.proofs.Counts.{ind, count-cons, count-map, count-same}
 use Rattle.volume.specs.declared.Point.{Point}
 use Rattle.quality.specs.declared.Kind.the-variants.{Upright, Inverted}
 use Rattle.quality.specs.declared.Quality.{Quality}
@@ -120,6 +120,10 @@ module _ (points : List Point) where
   unfolding rowQuality rowD rowS quality
   by-D-and-S row = refl
 
+  -- the score of a row's quality is that of its D and S
+  pub row-score : (row : Row) → ScoreIs (rowD points row) (rowS points row) (scoreOf (rowQuality points row))
+  row-score row = rw (by-D-and-S row) (score-is (rowD points row) (rowS points row))
+
   abbrev isOver : Row → Bool
   isOver row = over0 (rowD points row)
 
@@ -130,13 +134,10 @@ module _ (points : List Point) where
 
   counted : (p : Quality → Bool) (sign : ℤ → Bool) → ((d : ℤ) (s : ℕ) → p (qualityOf d s) ≡ sign d) → (rows : List Row)
       → count p (map (rowQuality points) rows) ≡ count (λ row. sign (rowD points row)) rows
-  unfolding those
-  counted p sign h [] = refl
-  counted p sign h (row ∷ rows) =
-      let q = rowQuality points row in
-      count-cons p q (map (rowQuality points) rows)
-      ∙ (λ i. ind ((ap p (by-D-and-S row) ∙ h (rowD points row) (rowS points row)) i) + counted p sign h rows i)
-      ∙ sym (count-cons (λ row. sign (rowD points row)) row rows)
+  counted p sign h rows =
+      count-map p (rowQuality points) rows
+      ∙ count-same (λ row. p (rowQuality points row)) (λ row. sign (rowD points row)) rows
+      (λ row m. ap p (by-D-and-S row) ∙ h (rowD points row) (rowS points row))
 
   pub upright-count : (rows : List Row) → count isUpright (map (rowQuality points) rows) ≡ count isOver rows
   upright-count = counted isUpright over0 upright-over

@@ -33,6 +33,7 @@ use Rattle.score.proofs.OctaveLargest.{OctaveIs as OctaveOf, octave-of-rows, oc
 use Rattle.rows.specs.declared.Row.{Row}
 use Rattle.rows.specs.Rows.{rowsAt, rowsIn}
 use Rattle.rows.specs.RowMeasure.{place, rowD, rowS, rowQuality}
+use Rattle.rows.proofs.ProperRows.{row-proper}
 use Rattle.layout.specs.Layout.{Patch, pointsAt, pointCount, rowCount, coordinatesOf, fieldsOf}
 use Rattle.block.proofs.RightBlocks.{opens}
 use Rattle.summary.specs.declared.Summary.{Summary}
@@ -40,14 +41,14 @@ use Rattle.tally.specs.Tally.{qualities}
 use Rattle.summary.specs.Summary.{summaryOf}
 use Rattle.layout.specs.Within.{isByte}
 use Rattle.layout.proofs.BytesOfSlices.{part-bytes}
-use Rattle.tally.proofs.RowsInBytes.{place-within, row-proper, row-small}
+use Rattle.tally.proofs.RowsInBytes.{place-within, row-small}
 use Rattle.summary.proofs.BadnessFits.{badnessLimit, badness-most, qualities-rows}
 use Rattle.calls.specs.declared.Summarised.the-variants.{Summary as Summed}
 use Rattle.accepted.proofs.AfterRemoval.{summary-opened}
 use Rattle.demands.specs.Kernels.{ours}
-use Rattle.demands.specs.Summaries.{over0, uprights, ScoreIs, BadnessIs, BadnessSum, WorstIs, OctaveIs, maxBadness, Bounded, SumsFit}
+use Rattle.demands.specs.Summaries.{over0, uprights, BadnessIs, BadnessSum, WorstIs, OctaveIs, maxBadness, Bounded, SumsFit}
 use Rattle.demands.specs.Summaries.{Sums, Summarises, OneSummary}
-use Rattle.demands.proofs.QualityByDAndS.{score-is, one-score, badness-is, one-badness, by-D-and-S, upright-count, flat-count}
+use Rattle.demands.proofs.QualityByDAndS.{row-score, one-score, badness-is, one-badness, by-D-and-S, upright-count, flat-count}
 use Rattle.demands.proofs.QualityByDAndS.{inverted-count, three-counts, rowBadness, upright-sum}
 
 -- ---- marks are no numbers
@@ -123,10 +124,6 @@ module _ (coordinates : List ℕ) (bytes : T (every isByte coordinates)) (n : �
         badness-most = row-badness-most row;
       }
 
-  -- the score of a row's quality is that of its D and S
-  row-score : (row : Row) → ScoreIs (rowD points row) (rowS points row) (scoreOf (rowQuality points row))
-  row-score row = rw (by-D-and-S points row) (score-is (rowD points row) (rowS points row))
-
   -- ---- the worst score
 
   fractions : Fractions qs
@@ -142,9 +139,9 @@ module _ (coordinates : List ℕ) (bytes : T (every isByte coordinates)) (n : �
         row = row;
         inside = inside;
         none-worse = λ other m. rw same (w .bounds (rowQuality points other) (Memᴰ·map (rowQuality points) m) .not-worse);
-        its-score = rw same at (row-score row);
+        its-score = rw same at (row-score points row);
         smallest = λ other m k h.
-            subst (λ n. scoreOf q ≤ n) (one-score (row-score other) h) (least (rowQuality points other) (Memᴰ·map (rowQuality points) m));
+            subst (λ n. scoreOf q ≤ n) (one-score (row-score points other) h) (least (rowQuality points other) (Memᴰ·map (rowQuality points) m));
       }
 
   worst-said : (score : Score) → worstScore qs ≡ Worst score → WorstIs patch (score .value)

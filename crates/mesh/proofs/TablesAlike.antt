@@ -1,7 +1,7 @@
 -- Tables with the same tetrahedra, up to even rearrangement and row order: row by row, each row of one has its own row in the other.
 -- So a total over the rows in any order, with a value that even rearrangement keeps, is one for both, and so is the mesh rule.
 use Prim.Native.Nat.{ℕ, _+_}
-use mathlib.Core.Bool.{true, _&&_}
+use mathlib.Core.Bool.{Bool, true, _&&_}
 use mathlib.Core.List.{List, [], _∷_, _++_, map, foldr}
 use mathlib.Core.Path.{_≡_, refl, sym, ap, _∙_}
 use native.Mathlib.Omega.{arith}
@@ -64,16 +64,25 @@ module _ {M : Type 0} (op : M → M → M) (none : M) (swap : (a b c : M) → op
       ∙ sym (total-at (e .0) (e .1) (e .2))
       ∙ ap (λ us. foldr op none (map value us)) (sym (e .3))
 
--- the mesh rule
+-- counts, and the mesh rule
 
 add-swap : (a b c : ℕ) → a + (b + c) ≡ b + (a + c)
 add-swap a b c = omega arith
 
+-- what even rearrangement keeps is counted alike
+alike-count : (p : Row → Bool) → ((t u : Row) → T (rearranged t u) → p t ≡ p u) → (rows others : List Row) → Alike rows others
+    → count p rows ≡ count p others
+alike-count p same rows others e =
+    count-sum p rows
+    ∙ alike-total _+_ 0 add-swap (λ t. ind (p t)) (λ t u k. ap ind (same t u k)) rows others e
+    ∙ sym (count-sum p others)
+
+pub same-count : (p : Row → Bool) → ((t u : Row) → T (rearranged t u) → p t ≡ p u) → (rows others : List Row) → SameTetrahedra rows others
+    → count p rows ≡ count p others
+same-count p same rows others e = alike-count p same rows others (same-alike rows others e)
+
 alike-hits : (rows others : List Row) → Alike rows others → (f : Face) → hits f rows ≡ hits f others
-alike-hits rows others e f =
-    count-sum (uses f) rows
-    ∙ alike-total _+_ 0 add-swap (λ t. ind (uses f t)) (λ t u k. ap ind (even-uses t u k f)) rows others e
-    ∙ sym (count-sum (uses f) others)
+alike-hits rows others e f = alike-count (uses f) (λ t u k. even-uses t u k f) rows others e
 
 alike-keeps : (count : ℕ) (rows others : List Row) → Alike rows others → keepsMeshRule count rows ≡ keepsMeshRule count others
 unfolding keepsMeshRule

@@ -13,18 +13,12 @@ use Rattle.lists.specs.Lists.{those, count, numbersFrom}
 use Rattle.triangulation.specs.Triangulation.{Tri, side, cut, span, waysWithin, ways}
 use Rattle.lists.proofs.Tests.{and-l, and-r, and-i, is-yes, eq-test}
 use Rattle.lists.proofs.Numbers.{numbers-e}
-use Rattle.lists.proofs.Counts.{ind, ind-yes, ind-no, count-cons, count-append, count-two}
+use Rattle.lists.proofs.Counts.{ind, ind-yes, ind-no, count-cons, count-append, count-map, count-two}
 use Rattle.triangulation.proofs.AllWays.{cutsAt, span-over, ways-span, ways-within}
 use Rattle.polygon.proofs.SameTriangles.{nothing, none}
 use Rattle.polygon.proofs.Apart.{by-order}
 
 -- ---- counting
-
--- among the images
-count-map : {A B : Type 0} (p : B → Bool) (f : A → B) (xs : List A) → count p (map f xs) ≡ count (λ x. p (f x)) xs
-unfolding those
-count-map p f [] = refl
-count-map p f (x ∷ xs) = omega (arith, count-cons p (f x) (map f xs), count-cons (λ x. p (f x)) x xs, count-map p f xs)
 
 -- among the lists of all elements, where each element that passes brings n and each other brings none
 count-flatMap : {A B : Type 0} (p : B → Bool) (f : A → List B) (q : A → Bool) (n : ℕ) (xs : List A)

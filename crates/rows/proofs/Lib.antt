@@ -4,6 +4,7 @@ pub mod PastedRows
 pub mod EvenMoves
 pub mod EvenGroup
 pub mod EvenMeasure
+pub mod ProperRows
 pub mod RegionsOfRows
 pub mod RegionTotals
 pub mod RegionsRowByRow

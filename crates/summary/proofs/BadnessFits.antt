@@ -22,8 +22,9 @@ use Rattle.score.proofs.BadnessLeast.{badness-other, badness-within}
 use Rattle.score.proofs.OctaveLargest as Octaves
 use Rattle.rows.specs.RowMeasure.{rowQuality}
 use Rattle.rows.specs.declared.Row.{Row}
+use Rattle.rows.proofs.ProperRows.{row-proper}
 use Rattle.layout.specs.Within.{isByte}
-use Rattle.tally.proofs.RowsInBytes.{row-proper, row-small}
+use Rattle.tally.proofs.RowsInBytes.{row-small}
 
 -- the bound of badness: (12·255²)³ / 432
 abbrev pub badnessLimit : ℕ

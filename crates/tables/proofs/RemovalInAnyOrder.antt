@@ -22,6 +22,7 @@ use Rattle.rows.specs.RowMeasure.{rowQuality}
 use Rattle.rows.specs.Tetrahedra.{rearranged, SameTetrahedra}
 use Rattle.rows.proofs.EvenMoves.{even-holds}
 use Rattle.rows.proofs.EvenMeasure.{even-quality}
+use Rattle.rows.proofs.ProperRows.{rows-fractions}
 use Rattle.answers.specs.Answers.{Tests, firstRefusal}
 use Rattle.layout.specs.Layout.{Patch}
 use Rattle.answers.proofs.Refusals.{refuses}
@@ -36,7 +37,6 @@ use Rattle.triangulation.specs.Admissible.{admissible, pieceAdmissible, barred}
 use Rattle.triangulation.specs.Best.{worstOfWay, ringWays, chosen}
 use Rattle.triangulation.proofs.AdmissibleByFaces.{ring-admissible}
 use Rattle.triangulation.proofs.AllWays.{ways-span}
-use Rattle.triangulation.proofs.WorstOfWays.{rows-fractions}
 use Rattle.triangulation.proofs.WholeRing.{way-listed, listed-way}
 use Rattle.triangulation.proofs.AcrossTables.{those-across, length-across, mixed-across, region-across}
 use Rattle.triangulation.proofs.BestInAnyRowOrder.{kin, piece-same, barred-same, worst-same, rows-same}

@@ -1,4 +1,4 @@
--- Every row's quality is proper, and where the coordinates are bytes it is small; so is the worst of a patch.
+-- Where the coordinates are bytes every row's quality is small; and what each row's quality has, the worst of a patch has.
 use Prim.Native.Nat.{ℕ, _+_, _*_, _<_}
 use mathlib.Core.List.{List, Memᴰ·of-map}
 use mathlib.Core.Option.{Option, none, some, Option·getD}
@@ -15,21 +15,15 @@ use Rattle.volume.proofs.PointsInBytes.{points-length, points-at}
 use Rattle.volume.proofs.VolumeBounds.{CoordinatesTo}
 use Rattle.quality.specs.declared.Quality.{Quality}
 use Rattle.quality.specs.Quality.{worst, zeroQuality}
-use Rattle.quality.proofs.ConsistentQualities.{Consistent, quality-consistent}
 use Rattle.quality.proofs.QualityBounds.{Small, quality-small}
-use Rattle.quality.proofs.QualityOrder.{Fraction}
-use Rattle.quality.proofs.WorstAndBest.{Fractions, worst-is}
+use Rattle.quality.proofs.WorstAndBest.{worst-is}
 use Rattle.rows.specs.declared.Row.{Row}
 use Rattle.rows.specs.RowMeasure.{noPoint, place, rowQuality}
+use Rattle.rows.proofs.ProperRows.{rows-fractions}
 use Rattle.layout.specs.Layout.{Patch}
 use Rattle.layout.specs.Within.{isByte}
 use Rattle.layout.proofs.BytesOfSlices.{byte-most}
 use Rattle.tally.specs.Tally.{qualities, worstOfPatch}
-
--- every row's quality is proper
-pub row-proper : (points : List Point) (row : Row) → Consistent (rowQuality points row)
-unfolding rowQuality
-row-proper points row = let at = place points in quality-consistent (at (row .p)) (at (row .q)) (at (row .r)) (at (row .s))
 
 module _ (coordinates : List ℕ) (bytes : T (every isByte coordinates)) (count : ℕ) where
   abbrev points : List Point
@@ -69,8 +63,6 @@ worst-has P patch zero each = go (worst (qualities patch)) refl
     go : (o : Option Quality) → worst (qualities patch) ≡ o → P (Option·getD o zeroQuality)
     go none e = zero
     go (some q) e =
-        let fractions : Fractions (qualities patch) = λ r k.
-        let (row, i, same) = Memᴰ·of-map (rowQuality (patch .points)) (patch .rows) k in
-        subst Fraction same (row-proper (patch .points) row .fraction) in
-        let (row, i, same) = Memᴰ·of-map (rowQuality (patch .points)) (patch .rows) (worst-is (qualities patch) fractions e .inside) in
+        let found = worst-is (qualities patch) (rows-fractions (patch .points) (patch .rows)) e in
+        let (row, i, same) = Memᴰ·of-map (rowQuality (patch .points)) (patch .rows) (found .inside) in
         subst P same (each row)

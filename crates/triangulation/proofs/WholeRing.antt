@@ -18,6 +18,7 @@ use Rattle.quality.proofs.WorstAndBest.{worst-is}
 use Rattle.rows.specs.declared.Row.{Row}
 use Rattle.rows.specs.RowMeasure.{rowQuality}
 use Rattle.rows.specs.Rows.{holdsEdge}
+use Rattle.rows.proofs.ProperRows.{rows-fractions}
 use Rattle.ring.specs.Ring.{Site, m}
 use Rattle.ring.specs.SoundRing.{SoundRing}
 use Rattle.triangulation.specs.Triangulation.{Tri, side, cut, span, ways, newRows, tableAfter, rowsAfter}
@@ -27,7 +28,7 @@ use Rattle.triangulation.proofs.Barred.{open-piece, whole-is}
 use Rattle.triangulation.proofs.AdmissibleByFaces.{ring-admissible}
 use Rattle.triangulation.proofs.TreesTriangulate.{rows-count}
 use Rattle.triangulation.proofs.AllWays.{ways-span, ways-all}
-use Rattle.triangulation.proofs.WorstOfWays.{Way, rows-fractions, worst-there, best-there, best-reached}
+use Rattle.triangulation.proofs.WorstOfWays.{Way, worst-there, best-there, best-reached}
 use Rattle.triangulation.proofs.ChosenIsBest.{chosen-optimal}
 
 -- t triangulates the ring, or the chain, and keeps the mesh rule

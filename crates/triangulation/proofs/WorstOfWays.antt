@@ -11,29 +11,19 @@ use lib.Dec.{T}
 use Rattle.lists.proofs.Lists.{those-e, those-i}
 use Rattle.lists.proofs.Images.{flatMap-append}
 use Rattle.quality.specs.declared.Quality.{Quality}
-use Rattle.volume.specs.declared.Point.{Point}
 use Rattle.quality.specs.Quality.{worst}
 use Rattle.quality.proofs.QualityOrder.{Fraction, _⊑_, at-most-trans}
 use Rattle.quality.proofs.WorstAndBest.{Fractions, Worst, worst-is, best-is, best-of}
-use Rattle.quality.proofs.ConsistentQualities.{zero-quality-fraction, quality-fraction}
+use Rattle.quality.proofs.ConsistentQualities.{zero-quality-fraction}
 use Rattle.rows.specs.declared.Row.{Row}
-use Rattle.rows.specs.RowMeasure.{place, rowQuality}
+use Rattle.rows.specs.RowMeasure.{rowQuality}
+use Rattle.rows.proofs.ProperRows.{rows-fractions}
 use Rattle.ring.specs.Ring.{Site}
 use Rattle.triangulation.specs.Triangulation.{Tri, side, cut, span, triangles, twoRows, newRows, ways}
 use Rattle.triangulation.specs.Admissible.{pieceAdmissible}
 use Rattle.triangulation.specs.Best.{worstOfWay, pieceWays, bestWorst, sameBest}
 use Rattle.triangulation.proofs.AllWays.{ways-span, ways-all}
 use Rattle.triangulation.proofs.AdmissibleParts.{Cuts}
-
-pub row-fraction : (points : List Point) (row : Row) → Fraction (rowQuality points row)
-unfolding rowQuality
-row-fraction points row = let at = place points in quality-fraction (at (row .p)) (at (row .q)) (at (row .r)) (at (row .s))
-
--- the qualities of rows are fractions
-pub rows-fractions : (points : List Point) (rows : List Row) → Fractions (map (rowQuality points) rows)
-rows-fractions points rows q m =
-    let at = Memᴰ·of-map (rowQuality points) rows m in
-    subst Fraction (at .2) (row-fraction points (at .0))
 
 -- none of the rows is worse than q
 abbrev pub Over : Site → Quality → List Row → Type 0
