@@ -1,0 +1,4 @@
+pub mod WorstToBest
+pub mod FirstEntries
+pub mod LowestReplaced
+pub mod WorstStays
