@@ -19,3 +19,4 @@ pub mod SummaryGiven
 pub mod Demand2
 pub mod NearlyShown
 pub mod Demand3
+pub mod ListGrows

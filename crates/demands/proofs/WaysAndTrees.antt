@@ -97,7 +97,7 @@ module _ (site : Site) where
         flatMap-i (twoRows site) us (alike-in ts us alike i) own
 
   -- a triangle has rows, so the stand-in is never used
-  worst-some : (x : Triangle) (ts : List Triangle)
+  pub worst-some : (x : Triangle) (ts : List Triangle)
       → worst (map (rowQuality (site .points)) (rowsOf site (x ∷ ts))) ≡ some (worstBy site (x ∷ ts))
   unfolding worst twoRows flatMap
   worst-some x ts = refl

@@ -8,3 +8,4 @@ pub mod FlipWords
 pub mod Summaries
 pub mod Demands
 pub mod NearlyExact
+pub mod WorstFirst
