@@ -91,7 +91,7 @@ abbrev pub answer : Patch → ℕ → ℕ → ℕ
 answer patch e f = removeAnswer (bytesOf 1 patch) blank e f
 
 -- the patch after an accepted removal of edge 0, 1
-abbrev after : Patch → Patch
+abbrev pub after : Patch → Patch
 after patch = fieldsOf (removeBytes (bytesOf 1 patch) blank 0 1)
 
 -- the new rows round edge 0, 1 by a triangulation of the ring, whether it is carried out or not

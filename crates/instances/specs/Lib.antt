@@ -4,3 +4,4 @@ pub mod CloseQualities
 pub mod OtherOrder
 pub mod RareSummaries
 pub mod SixthPoint
+pub mod LargerLists
