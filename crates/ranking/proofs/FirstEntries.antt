@@ -2,7 +2,7 @@
 -- lists with the same qualities in another order neither grows to the other.
 use Prim.Native.Nat.{ℕ, zero, suc, _≤_, _<_}
 use mathlib.Core.Bool.{Bool, not}
-use mathlib.Core.List.{List, [], _∷_, List·Memᴰ·head, List·Memᴰ·tail}
+use mathlib.Core.List.{List, [], _∷_, List·Memᴰ·head}
 use mathlib.Core.Path.{_≡_, refl, ap}
 use native.Mathlib.Omega.{arith}
 use lib.Dec.{T, T-not}
@@ -10,7 +10,7 @@ use lib.ListN.{length}
 use Rattle.lists.specs.Lists.{count}
 use Rattle.lists.proofs.Tests.{same-test}
 use Rattle.lists.proofs.Places.{in-cases}
-use Rattle.lists.proofs.Counts.{ind, count-cons, count-member}
+use Rattle.lists.proofs.Counts.{ind, count-cons}
 use Rattle.quality.specs.declared.Quality.{Quality}
 use Rattle.quality.specs.Quality.{worse, asGood}
 use Rattle.quality.proofs.QualityOrder.{Fraction, _⊏_, _≈_, at-most-self, at-most-trans, worse-is-at-most, worse-at-most-trans}
@@ -18,7 +18,7 @@ use Rattle.quality.proofs.QualityOrder.{at-most-worse-trans, as-good, from-as-g
 use Rattle.quality.proofs.WorstAndBest.{Fractions}
 use Rattle.ranking.specs.Ranking.{fromWorst, sorted, entry, Grows}
 use Rattle.ranking.proofs.WorstToBest.{ranked-fractions, ranked-count, ranked-sorted, sorted-head, sorted-tail, noBetterThan, upTo}
-use Rattle.ranking.proofs.WorstToBest.{none-up-to}
+use Rattle.ranking.proofs.WorstToBest.{behind-first, self-up-to, none-up-to}
 
 pub never-grows-self : (xs : List Quality) → Grows xs xs → ⊥
 never-grows-self xs g =
@@ -74,7 +74,7 @@ climbs-on fx fy fz (later {x = x} h c) (here k) = here (at-most-worse-trans (fx 
 climbs-on fx fy fz (later {y = y} h c) (later k d) =
     let mid = fy y (List·Memᴰ·head refl) in
     later (record { up = at-most-trans mid (h .up) (k .up); down = at-most-trans mid (k .down) (h .down) })
-    (climbs-on (λ q m. fx q (List·Memᴰ·tail m)) (λ q m. fy q (List·Memᴰ·tail m)) (λ q m. fz q (List·Memᴰ·tail m)) c d)
+    (climbs-on (behind-first fx) (behind-first fy) (behind-first fz) c d)
 
 pub grows-on : (xs ys zs : List Quality) → Fractions xs → Fractions ys → Fractions zs → Grows xs ys → Grows ys zs → Grows xs zs
 grows-on xs ys zs fx fy fz g h = grows (climbs-on fx fy fz (climbs xs ys g) (climbs ys zs h))
@@ -82,9 +82,9 @@ grows-on xs ys zs fx fy fz g h = grows (climbs-on fx fy fz (climbs xs ys g) (cli
 -- ---- other qualities
 
 -- of two that are one fraction, both are no better than q or none is
-pub one-count : {x y : Quality} → Fraction x → Fraction y → x ≈ y → (q : Quality) → ind (not (worse q x)) ≡ ind (not (worse q y))
+pub one-count : {x y : Quality} → Fraction x → Fraction y → x ≈ y → (q : Quality) → ind (noBetterThan q x) ≡ ind (noBetterThan q y)
 one-count {x} {y} fx fy e q =
-    ap ind (same-test (not (worse q x)) (not (worse q y))
+    ap ind (same-test (noBetterThan q x) (noBetterThan q y)
     (λ k. at-most-trans fx (e .down) (record { not-worse = k }) .not-worse)
     (λ k. at-most-trans fy (e .up) (record { not-worse = k }) .not-worse))
 
@@ -94,10 +94,10 @@ fewer : {xs ys : List Quality} → Fractions xs → Fractions ys → T (sorted x
 fewer fx fy sx sy (here {x = x} {y = y} {xs = xs} {ys = ys} h) =
     let over : upTo x (y ∷ ys) ≡ 0 = none-up-to x (y ∷ ys) (λ r m.
     worse-at-most-trans (fy r m) h (in-cases m (λ e. rw e (at-most-self y)) (sorted-head y ys sy r))) in
-    let own : 1 ≤ upTo x (x ∷ xs) = count-member (noBetterThan x) (x ∷ xs) (List·Memᴰ·head refl) (worse-never-self x) in
+    let own : 1 ≤ upTo x (x ∷ xs) = self-up-to x (x ∷ xs) (List·Memᴰ·head refl) in
     (x, omega (arith, over, own))
 fewer fx fy sx sy (later {x = x} {y = y} {xs = xs} {ys = ys} h c) =
-    let (q, less) = fewer (λ q m. fx q (List·Memᴰ·tail m)) (λ q m. fy q (List·Memᴰ·tail m)) (sorted-tail x xs sx) (sorted-tail y ys sy) c in
+    let (q, less) = fewer (behind-first fx) (behind-first fy) (sorted-tail x xs sx) (sorted-tail y ys sy) c in
     let both = one-count (fx x (List·Memᴰ·head refl)) (fy y (List·Memᴰ·head refl)) h q in
     (q, omega (arith, less, both, count-cons (noBetterThan q) x xs, count-cons (noBetterThan q) y ys))
 

@@ -1,28 +1,28 @@
 -- Some rows go, and each row that comes is better than the worst of them, w: then the list grows. For every q worse than w as many of the
 -- old qualities as of the new ones are no better than q, and of w fewer of the new ones. Look at the first entries: if the new one is better
 -- than w, it is better than the old one; otherwise they are one fraction, all counts fall by the same, and so on.
-use Prim.Native.Nat.{_+_, _≤_, _<_}
+use Prim.Native.Nat.{_+_, _<_}
 use mathlib.Core.Bool.{Bool, not}
-use mathlib.Core.List.{List, [], _∷_, _++_, map, map-append, List·Memᴰ, List·Memᴰ·head, List·Memᴰ·tail, Memᴰ·of-map}
+use mathlib.Core.List.{List, [], _∷_, _++_, map, map-append, List·Memᴰ, List·Memᴰ·head, Memᴰ·of-map}
 use mathlib.Core.Logic.{_⊎_, inl, inr}
 use mathlib.Core.Path.{_≡_, refl, sym, _∙_, subst}
 use native.Mathlib.Omega.{arith}
 use lib.Dec.{T}
 use lib.ListN.{length, length-append, length-map}
 use Rattle.lists.specs.Lists.{those}
-use Rattle.lists.proofs.Counts.{count-cons, count-append, count-most, count-member, count-split, count-map, ind, ind-yes}
+use Rattle.lists.proofs.Counts.{count-cons, count-append, count-most, count-split, count-map, ind, ind-yes}
 use Rattle.volume.specs.declared.Point.{Point}
 use Rattle.quality.specs.declared.Quality.{Quality}
 use Rattle.quality.specs.Quality.{worse}
 use Rattle.quality.proofs.QualityOrder.{Fraction, _⊏_, _⊑_, _≈_, compare, worse-is-at-most, worse-at-most-trans}
-use Rattle.quality.proofs.QualityOrder.{at-most-worse-trans, worse-never-self}
+use Rattle.quality.proofs.QualityOrder.{at-most-worse-trans}
 use Rattle.quality.proofs.WorstAndBest.{Fractions, Worst}
 use Rattle.rows.specs.declared.Row.{Row}
 use Rattle.rows.specs.RowMeasure.{rowQuality}
 use Rattle.rows.proofs.ProperRows.{rows-fractions}
 use Rattle.ranking.specs.Ranking.{fromWorst, sorted, Grows}
 use Rattle.ranking.proofs.WorstToBest.{ranked-fractions, ranked-count, ranked-length, ranked-sorted, sorted-tail, noBetterThan}
-use Rattle.ranking.proofs.WorstToBest.{upTo, none-up-to, lowest}
+use Rattle.ranking.proofs.WorstToBest.{behind-first, upTo, self-up-to, none-up-to, lowest}
 use Rattle.ranking.proofs.FirstEntries.{Climbs, here, later, grows, one-count}
 
 -- ---- sorted lists
@@ -33,11 +33,8 @@ module _ (w : Quality) (fw : Fraction w) where
       → (x ⊏ w → upTo x (x ∷ xs) ≡ upTo x (y ∷ ys)) → y ⊑ w → y ⊑ x
   level x y xs ys fy sy same low = go (compare x y)
     where
-      self : 1 ≤ upTo x (x ∷ xs)
-      self = count-member (noBetterThan x) (x ∷ xs) (List·Memᴰ·head refl) (worse-never-self x)
-
       go : (x ⊏ y) ⊎ (y ⊑ x) → y ⊑ x
-      go (inl h) = lowest x y ys fy sy (omega (arith, self, same (worse-at-most-trans fw h low)))
+      go (inl h) = lowest x y ys fy sy (omega (arith, self-up-to x (x ∷ xs) (List·Memᴰ·head refl), same (worse-at-most-trans fw h low)))
       go (inr h) = h
 
   climb : (xs ys : List Quality) → Fractions xs → Fractions ys → T (sorted xs) → T (sorted ys)
@@ -46,7 +43,7 @@ module _ (w : Quality) (fw : Fraction w) where
   climb (x ∷ xs) [] fx fy sx sy same fewer more = absurd (omega arith)
   climb (x ∷ xs) (y ∷ ys) fx fy sx sy same fewer more =
       go (compare w y)
-      (climb xs ys (λ q m. fx q (List·Memᴰ·tail m)) (λ q m. fy q (List·Memᴰ·tail m)) (sorted-tail x xs sx) (sorted-tail y ys sy))
+      (climb xs ys (behind-first fx) (behind-first fy) (sorted-tail x xs sx) (sorted-tail y ys sy))
     where
       fair-x : Fraction x
       fair-x = fx x (List·Memᴰ·head refl)
@@ -118,7 +115,7 @@ module _ (points : List Point) (goes : Row → Bool) (rows new : List Row) (w : 
       (ranked-fractions (measured rows) (all rows)) (ranked-fractions (measured (stay ++ new)) (all (stay ++ new)))
       (ranked-sorted (measured rows) (all rows)) (ranked-sorted (measured (stay ++ new)) (all (stay ++ new)))
       (λ q l. omega (arith, was q, now q, none-gone q l, none-below q l))
-      (omega (arith, was w, now w, none-new, count-member (noBetterThan w) (measured gone) (low .inside) (worse-never-self w)))
+      (omega (arith, was w, now w, none-new, self-up-to w (measured gone) (low .inside)))
       (omega (arith, now w, none-new, count-most (noBetterThan w) (measured stay), long, some)))
     where
       all : (rows : List Row) → Fractions (measured rows)

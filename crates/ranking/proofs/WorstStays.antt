@@ -7,10 +7,9 @@ use mathlib.Core.Path.{_≡_, refl, sym, ap, subst}
 use native.Mathlib.Omega.{arith}
 use lib.Dec.{T}
 use lib.ListN.{length}
-use Rattle.lists.proofs.Counts.{count-member}
 use Rattle.quality.specs.declared.Quality.{Quality}
 use Rattle.quality.specs.Quality.{zeroQuality, worse, asGood, worst}
-use Rattle.quality.proofs.QualityOrder.{_⊑_, at-most-trans, worse-is-at-most, as-good, as-good-self, worse-never-self}
+use Rattle.quality.proofs.QualityOrder.{_⊑_, at-most-trans, worse-is-at-most, as-good, as-good-self}
 use Rattle.quality.proofs.WorstAndBest.{Worst, worst-is, worst-of}
 use Rattle.score.specs.Score.{scoreOf}
 use Rattle.score.proofs.ScoreLargest.{score-grows}
@@ -18,7 +17,7 @@ use Rattle.layout.specs.Layout.{Patch}
 use Rattle.tally.specs.Tally.{qualities, worstOfPatch}
 use Rattle.ranking.specs.Ranking.{fromWorst, worstFirst, entry, Grows}
 use Rattle.ranking.proofs.WorstToBest.{ranked-in, ranked-fractions, ranked-count, ranked-length, ranked-sorted, noBetterThan}
-use Rattle.ranking.proofs.WorstToBest.{lowest, patch-fractions}
+use Rattle.ranking.proofs.WorstToBest.{self-up-to, lowest, patch-fractions}
 use Rattle.ranking.proofs.FirstEntries.{Climbs, here, later, climbs}
 
 -- ---- the first entry
@@ -32,7 +31,7 @@ module _ (patch : Patch) {x : Quality} {xs : List Quality} (e : worstFirst patch
         inside = ranked-in qs (rw e (List·Memᴰ·head refl));
         bounds =
             λ r m. lowest r x xs (rw e at (ranked-fractions qs (patch-fractions patch))) (rw e at (ranked-sorted qs (patch-fractions patch)))
-            (rw (← e, ranked-count (noBetterThan r) qs) (count-member (noBetterThan r) qs m (worse-never-self r)));
+            (rw (← e, ranked-count (noBetterThan r) qs) (self-up-to r qs m));
       }
 
   -- a patch with an entry has rows, so its worst is one of theirs

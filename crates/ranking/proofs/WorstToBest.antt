@@ -11,16 +11,20 @@ use Rattle.lists.specs.Lists.{every, count}
 use Rattle.lists.proofs.Tests.{and-l, and-r, and-i, is-yes, is-no}
 use Rattle.lists.proofs.Places.{in-cases}
 use Rattle.lists.proofs.Lists.{every-at, every-i, any-e, not-any, those-all}
-use Rattle.lists.proofs.Counts.{ind, count-cons, count-map, count-none, some-counted}
+use Rattle.lists.proofs.Counts.{ind, count-cons, count-map, count-member, count-none, some-counted}
 use Rattle.quality.specs.declared.Quality.{Quality}
 use Rattle.quality.specs.Quality.{worse}
-use Rattle.quality.proofs.QualityOrder.{_⊏_, _⊑_, at-most-self, at-most-trans, worse-is-at-most}
+use Rattle.quality.proofs.QualityOrder.{_⊏_, _⊑_, at-most-self, at-most-trans, worse-is-at-most, worse-never-self}
 use Rattle.quality.proofs.WorstAndBest.{Fractions}
 use Rattle.rows.specs.RowMeasure.{rowQuality}
 use Rattle.rows.proofs.ProperRows.{rows-fractions}
 use Rattle.layout.specs.Layout.{Patch}
 use Rattle.tally.specs.Tally.{qualities}
 use Rattle.ranking.specs.Ranking.{behind, put, fromWorst, worstFirst, sorted}
+
+-- behind the first
+pub behind-first : {q : Quality} {qs : List Quality} → Fractions (q ∷ qs) → Fractions qs
+behind-first f r m = f r (List·Memᴰ·tail m)
 
 -- ---- the same qualities
 
@@ -82,7 +86,7 @@ sorted-tail q qs h = and-r (every (λ r. not (worse r q)) qs) (sorted qs) h
 put-sorted : (q : Quality) (rs : List Quality) → Fractions rs → T (sorted rs) → T (sorted (put q rs))
 unfolding put
 put-sorted q [] f h = sorted-i q [] (λ r m. absurd (List·Memᴰ·not-nil m)) h
-put-sorted q (r ∷ rs) f h = go (behind q r) refl (put-sorted q rs (λ x m. f x (List·Memᴰ·tail m)) (sorted-tail r rs h))
+put-sorted q (r ∷ rs) f h = go (behind q r) refl (put-sorted q rs (behind-first f) (sorted-tail r rs h))
   where
     go : (b : Bool) → behind q r ≡ b → T (sorted (put q rs)) → T (sorted (cond b (r ∷ put q rs) (q ∷ r ∷ rs)))
     go true e k =
@@ -96,9 +100,7 @@ put-sorted q (r ∷ rs) f h = go (behind q r) refl (put-sorted q rs (λ x m. f x
 pub ranked-sorted : (qs : List Quality) → Fractions qs → T (sorted (fromWorst qs))
 unfolding fromWorst sorted
 ranked-sorted [] f = tt
-ranked-sorted (q ∷ qs) f =
-    let rest : Fractions qs = λ x m. f x (List·Memᴰ·tail m) in
-    put-sorted q (fromWorst qs) (ranked-fractions qs rest) (ranked-sorted qs rest)
+ranked-sorted (q ∷ qs) f = put-sorted q (fromWorst qs) (ranked-fractions qs (behind-first f)) (ranked-sorted qs (behind-first f))
 
 -- ---- the first of a sorted list
 
@@ -109,6 +111,10 @@ noBetterThan q r = not (worse q r)
 -- how many are
 abbrev pub upTo : Quality → List Quality → ℕ
 upTo q qs = count (noBetterThan q) qs
+
+-- q itself is
+pub self-up-to : (q : Quality) (qs : List Quality) → List·Memᴰ q qs → 1 ≤ upTo q qs
+self-up-to q qs m = count-member (noBetterThan q) qs m (worse-never-self q)
 
 -- none, where each is better
 pub none-up-to : (q : Quality) (qs : List Quality) → ((r : Quality) → List·Memᴰ r qs → q ⊏ r) → upTo q qs ≡ 0

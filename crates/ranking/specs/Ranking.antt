@@ -41,8 +41,8 @@ sorted (q ∷ qs) = let rest = sorted qs in every (λ r. not (worse r q)) qs && 
 abbrev pub entry : List Quality → ℕ → Quality
 entry qs i = getD qs i zeroQuality
 
--- The list grows from old to new: at the first place where they differ, both have an entry and the new one is better. Before it the two
--- entries of each place are one fraction. The lists need not be equally long.
+-- The list grows from old to new: up to some place inside both lists the entries are one fraction each, and at that place the new one is
+-- better. How long the lists are does not matter otherwise.
 pub record Grows (old new : List Quality) : Type 0 where
   pub place : ℕ
   pub in-old : place < length old
