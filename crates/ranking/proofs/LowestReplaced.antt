@@ -13,9 +13,7 @@ use Rattle.lists.specs.Lists.{those}
 use Rattle.lists.proofs.Counts.{count-cons, count-append, count-most, count-split, count-map, ind, ind-yes}
 use Rattle.volume.specs.declared.Point.{Point}
 use Rattle.quality.specs.declared.Quality.{Quality}
-use Rattle.quality.specs.Quality.{worse}
-use Rattle.quality.proofs.QualityOrder.{Fraction, _⊏_, _⊑_, _≈_, compare, worse-is-at-most, worse-at-most-trans}
-use Rattle.quality.proofs.QualityOrder.{at-most-worse-trans}
+use Rattle.quality.proofs.QualityOrder.{Fraction, _⊏_, _⊑_, _≈_, compare, worse-is-at-most, worse-at-most-trans, at-most-worse-trans}
 use Rattle.quality.proofs.WorstAndBest.{Fractions, Worst}
 use Rattle.rows.specs.declared.Row.{Row}
 use Rattle.rows.specs.RowMeasure.{rowQuality}
