@@ -14,7 +14,7 @@ use Rattle.lists.proofs.Places.{in-length}
 use Rattle.quality.specs.declared.Quality.{Quality}
 use Rattle.quality.specs.Quality.{worse}
 use Rattle.quality.proofs.QualityOrder.{_⊏_, _⊑_, compare, at-most-trans, worse-at-most-trans}
-use Rattle.quality.proofs.WorstAndBest.{Fractions, Worst, worst-is}
+use Rattle.quality.proofs.WorstAndBest.{Worst, worst-is}
 use Rattle.score.specs.Score.{scoreOf}
 use Rattle.score.proofs.ScoreLargest.{score-grows}
 use Rattle.rows.specs.declared.Row.{Row}
@@ -28,7 +28,7 @@ use Rattle.marking.specs.Marking.{newMark, dressed}
 use Rattle.layout.specs.Layout.{Patch, fieldsOf}
 use Rattle.tally.specs.Tally.{qualities, worstOfPatch}
 use Rattle.ranking.specs.Ranking.{worstFirst, Grows}
-use Rattle.ranking.proofs.WorstToBest.{ranked-fractions, patch-fractions}
+use Rattle.ranking.proofs.WorstToBest.{patch-fractions}
 use Rattle.ranking.proofs.FirstEntries as Lists
 use Rattle.ranking.proofs.LowestReplaced.{rows-grow}
 use Rattle.ranking.proofs.WorstStays as Worsts
@@ -164,12 +164,8 @@ module _ (k : Kernel) (second : Demand2 k) (third : Demand3 k) where
       let next = k .remove block out e f .1 in
       let (same, grown) = on rest in (
         same ∙ points-stay block out e f done,
-        Lists.grows-on (worstFirst (fieldsOf block)) (worstFirst (fieldsOf next)) (worstFirst (fieldsOf last)) (fair block) (fair next) (fair last)
-            (removal-grows block out e f done) grown,
+        Lists.grows-on (fieldsOf block) (fieldsOf next) (fieldsOf last) (removal-grows block out e f done) grown,
       )
-    where
-      fair : (block : List ℕ) → Fractions (worstFirst (fieldsOf block))
-      fair block = ranked-fractions (qualities (fieldsOf block)) (patch-fractions (fieldsOf block))
 
   pub worst-first : WorstFirst k
   worst-first = record {
@@ -181,7 +177,7 @@ module _ (k : Kernel) (second : Demand2 k) (third : Demand3 k) where
         let (points, grown) = on chain in
         let old = fieldsOf block in
         let new = fieldsOf last in
-        Lists.same-never-grow (qualities old) (qualities new) (patch-fractions old) (patch-fractions new) (same-qualities old new points same) grown;
+        Lists.same-never-grow old new (same-qualities old new points same) grown;
   }
 
 pub ours-worst-first : WorstFirst ours

@@ -1,5 +1,5 @@
--- Growth by first entries: they decide, or they are one fraction and the rest grows. So no list grows to itself, growth goes on, and of two
--- lists with the same qualities in another order neither grows to the other.
+-- Growth by first entries: they decide, or they are one fraction and the rest grows. So no list grows to itself, growth goes on from patch to
+-- patch, and of two patches with the same qualities in another order neither list grows to the other.
 use Prim.Native.Nat.{ℕ, zero, suc, _≤_, _<_}
 use mathlib.Core.Bool.{Bool, not}
 use mathlib.Core.List.{List, [], _∷_, List·Memᴰ·head}
@@ -16,9 +16,11 @@ use Rattle.quality.specs.Quality.{worse, asGood}
 use Rattle.quality.proofs.QualityOrder.{Fraction, _⊏_, _≈_, at-most-self, at-most-trans, worse-is-at-most, worse-at-most-trans}
 use Rattle.quality.proofs.QualityOrder.{at-most-worse-trans, as-good, from-as-good, worse-never-self}
 use Rattle.quality.proofs.WorstAndBest.{Fractions}
-use Rattle.ranking.specs.Ranking.{fromWorst, sorted, entry, Grows}
-use Rattle.ranking.proofs.WorstToBest.{ranked-fractions, ranked-count, ranked-sorted, sorted-head, sorted-tail, noBetterThan, upTo}
-use Rattle.ranking.proofs.WorstToBest.{behind-first, self-up-to, none-up-to}
+use Rattle.layout.specs.Layout.{Patch}
+use Rattle.tally.specs.Tally.{qualities}
+use Rattle.ranking.specs.Ranking.{worstFirst, sorted, entry, Grows}
+use Rattle.ranking.proofs.WorstToBest.{ranked-fractions, ranked-count, sorted-head, sorted-tail, noBetterThan, upTo}
+use Rattle.ranking.proofs.WorstToBest.{behind-first, self-up-to, none-up-to, patch-fractions, patch-sorted}
 
 pub never-grows-self : (xs : List Quality) → Grows xs xs → ⊥
 never-grows-self xs g =
@@ -76,8 +78,15 @@ climbs-on fx fy fz (later {y = y} h c) (later k d) =
     later (record { up = at-most-trans mid (h .up) (k .up); down = at-most-trans mid (k .down) (h .down) })
     (climbs-on (behind-first fx) (behind-first fy) (behind-first fz) c d)
 
-pub grows-on : (xs ys zs : List Quality) → Fractions xs → Fractions ys → Fractions zs → Grows xs ys → Grows ys zs → Grows xs zs
-grows-on xs ys zs fx fy fz g h = grows (climbs-on fx fy fz (climbs xs ys g) (climbs ys zs h))
+list-fractions : (patch : Patch) → Fractions (worstFirst patch)
+list-fractions patch = ranked-fractions (qualities patch) (patch-fractions patch)
+
+-- from a patch to a second, and from that to a third
+pub grows-on : (a b c : Patch) → Grows (worstFirst a) (worstFirst b) → Grows (worstFirst b) (worstFirst c) → Grows (worstFirst a) (worstFirst c)
+grows-on a b c g h =
+    grows
+    (climbs-on (list-fractions a) (list-fractions b) (list-fractions c)
+    (climbs (worstFirst a) (worstFirst b) g) (climbs (worstFirst b) (worstFirst c) h))
 
 -- ---- other qualities
 
@@ -101,11 +110,11 @@ fewer fx fy sx sy (later {x = x} {y = y} {xs = xs} {ys = ys} h c) =
     let both = one-count (fx x (List·Memᴰ·head refl)) (fy y (List·Memᴰ·head refl)) h q in
     (q, omega (arith, less, both, count-cons (noBetterThan q) x xs, count-cons (noBetterThan q) y ys))
 
--- lists with the same qualities, in whatever order, do not grow to each other
-pub same-never-grow : (xs ys : List Quality) → Fractions xs → Fractions ys → ((p : Quality → Bool) → count p xs ≡ count p ys)
-    → Grows (fromWorst xs) (fromWorst ys) → ⊥
-same-never-grow xs ys fx fy same g =
-    let (q, less) = fewer (ranked-fractions xs fx) (ranked-fractions ys fy) (ranked-sorted xs fx) (ranked-sorted ys fy)
-    (climbs (fromWorst xs) (fromWorst ys) g) in
+-- of patches with the same qualities, in whatever order of the rows, neither list grows to the other
+pub same-never-grow : (old new : Patch) → ((p : Quality → Bool) → count p (qualities old) ≡ count p (qualities new))
+    → Grows (worstFirst old) (worstFirst new) → ⊥
+same-never-grow old new same g =
+    let (q, less) = fewer (list-fractions old) (list-fractions new) (patch-sorted old) (patch-sorted new)
+    (climbs (worstFirst old) (worstFirst new) g) in
     let p = noBetterThan q in
-    omega (arith, less, ranked-count p xs, ranked-count p ys, same p)
+    omega (arith, less, ranked-count p (qualities old), ranked-count p (qualities new), same p)
