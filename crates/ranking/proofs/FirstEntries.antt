@@ -19,8 +19,8 @@ use Rattle.quality.proofs.WorstAndBest.{Fractions}
 use Rattle.layout.specs.Layout.{Patch}
 use Rattle.tally.specs.Tally.{qualities}
 use Rattle.ranking.specs.Ranking.{worstFirst, sorted, entry, Grows}
-use Rattle.ranking.proofs.WorstToBest.{ranked-fractions, ranked-count, sorted-head, sorted-tail, noBetterThan, upTo}
-use Rattle.ranking.proofs.WorstToBest.{behind-first, self-up-to, none-up-to, patch-fractions, patch-sorted}
+use Rattle.ranking.proofs.WorstToBest.{ranked-count, sorted-head, sorted-tail, noBetterThan, upTo}
+use Rattle.ranking.proofs.WorstToBest.{behind-first, self-up-to, none-up-to, list-fractions, patch-sorted}
 
 pub never-grows-self : (xs : List Quality) → Grows xs xs → ⊥
 never-grows-self xs g =
@@ -77,9 +77,6 @@ climbs-on fx fy fz (later {y = y} h c) (later k d) =
     let mid = fy y (List·Memᴰ·head refl) in
     later (record { up = at-most-trans mid (h .up) (k .up); down = at-most-trans mid (k .down) (h .down) })
     (climbs-on (behind-first fx) (behind-first fy) (behind-first fz) c d)
-
-list-fractions : (patch : Patch) → Fractions (worstFirst patch)
-list-fractions patch = ranked-fractions (qualities patch) (patch-fractions patch)
 
 -- from a patch to a second, and from that to a third
 pub grows-on : (a b c : Patch) → Grows (worstFirst a) (worstFirst b) → Grows (worstFirst b) (worstFirst c) → Grows (worstFirst a) (worstFirst c)

@@ -16,8 +16,8 @@ use Rattle.score.proofs.ScoreLargest.{score-grows}
 use Rattle.layout.specs.Layout.{Patch}
 use Rattle.tally.specs.Tally.{qualities, worstOfPatch}
 use Rattle.ranking.specs.Ranking.{fromWorst, worstFirst, entry, Grows}
-use Rattle.ranking.proofs.WorstToBest.{ranked-in, ranked-fractions, ranked-count, ranked-length, ranked-sorted, noBetterThan}
-use Rattle.ranking.proofs.WorstToBest.{self-up-to, lowest, patch-fractions}
+use Rattle.ranking.proofs.WorstToBest.{ranked-in, ranked-count, ranked-length, noBetterThan}
+use Rattle.ranking.proofs.WorstToBest.{self-up-to, lowest, patch-fractions, list-fractions, patch-sorted}
 use Rattle.ranking.proofs.FirstEntries.{Climbs, here, later, climbs}
 
 -- ---- the first entry
@@ -30,7 +30,7 @@ module _ (patch : Patch) {x : Quality} {xs : List Quality} (e : worstFirst patch
       record {
         inside = ranked-in qs (rw e (List·Memᴰ·head refl));
         bounds =
-            λ r m. lowest r x xs (rw e at (ranked-fractions qs (patch-fractions patch))) (rw e at (ranked-sorted qs (patch-fractions patch)))
+            λ r m. lowest r x xs (rw e at (list-fractions patch)) (rw e at (patch-sorted patch))
             (rw (← e, ranked-count (noBetterThan r) qs) (self-up-to r qs m));
       }
 

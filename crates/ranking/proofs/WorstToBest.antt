@@ -139,6 +139,9 @@ module _ (patch : Patch) where
   pub patch-fractions : Fractions (qualities patch)
   patch-fractions = rows-fractions (patch .points) (patch .rows)
 
+  pub list-fractions : Fractions (worstFirst patch)
+  list-fractions = ranked-fractions (qualities patch) patch-fractions
+
   pub patch-sorted : T (sorted (worstFirst patch))
   patch-sorted = ranked-sorted (qualities patch) patch-fractions
 
