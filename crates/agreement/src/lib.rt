@@ -1,4 +1,6 @@
 // Whether a call gives what its record says: the answer, every byte of the output, and what comes with answer 0.
+#![tactic(auto)]
+
 ghost use Rattle.std.specs.Prelude.{◌≤◌, ◌≡◌, length, replicate};
 ghost use Rattle.records.specs.Records.{record_bytes, part_bytes};
 ghost use Rattle.agreement.specs.Agreement.{open_agrees, seal_agrees, summary_agrees, remove_agrees, flip_agrees};

@@ -1,4 +1,6 @@
 // The answers of all calls: done, or a refusal with its number.
+#![tactic(auto)]
+
 ghost use Rattle.std.specs.Prelude.{◌≡◌};
 ghost use Rattle.answers.specs.Answers.{number_of};
 
@@ -66,7 +68,7 @@ pub const MARKS_DISAGREE: u8 = 22;
 pub const MARK_GOES: u8 = 23;
 
 // What a call answers that gives nothing else: done, or the number of the refusal.
-#[derive(Drop)]
+#[derive(Clone, Copy)]
 pub enum Answer {
     Done,
     Refused(u8),

@@ -1,4 +1,6 @@
 // The removal of an edge in a block that opens, tried: nothing is carried out or written.
+#![tactic(auto)]
+
 ghost use Rattle.std.specs.Prelude.{◌≡◌};
 ghost use Rattle.block.specs.Opening.{open_answer};
 ghost use Rattle.attempt.specs.Steps.{Attempts};
@@ -13,7 +15,7 @@ use verdict::decide;
 
 // The answer and, with answer 0, the ring or chain, whether it is closed, the region of the rows that go, and the apexes of the chosen
 // triangulation.
-#[derive(Drop)]
+#[derive(Clone, Copy)]
 pub struct Tried {
     pub answer: Answer,
     pub closed: bool,

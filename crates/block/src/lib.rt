@@ -1,4 +1,6 @@
 // Opening and sealing a block: answers 1 to 8 and 22.
+#![tactic(auto)]
+
 ghost use Rattle.std.specs.Prelude.{◌≡◌};
 ghost use Rattle.answers.specs.Answers.{answer_of};
 ghost use Rattle.block.specs.Opening.{open_answer, open_gives, seal_answer, seal_bytes};
@@ -7,7 +9,7 @@ use answers::Answer;
 use layout::{BLOCK_BYTES, BODY_BYTES, Fields};
 
 // What opening gives: the answer and, if it is done, the fields; with a refusal they are all zero.
-#[derive(Drop)]
+#[derive(Clone, Copy)]
 pub struct Opened {
     pub answer: Answer,
     pub fields: Fields,

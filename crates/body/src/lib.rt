@@ -1,4 +1,6 @@
 // The first 508 bytes of a block: answers 3 to 8, of which 6 is unused, and 22.
+#![tactic(auto)]
+
 ghost use Rattle.std.specs.Prelude.{◌+◌, ◌≤◌, ◌<◌, not, ◌≡◌, eqb, length};
 ghost use Rattle.lists.specs.Lists.{any};
 ghost use Rattle.answers.specs.Answers.{first_refusal, answer_of};

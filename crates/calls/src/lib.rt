@@ -1,4 +1,6 @@
 // What the calls on a patch block give.
+#![tactic(auto)]
+
 ghost use Rattle.std.specs.Prelude.{◌≡◌};
 ghost use Rattle.calls.specs.Summarising.{summary_number};
 ghost use Rattle.calls.specs.Removing.{removal_number};
@@ -8,7 +10,7 @@ use ring::Ring;
 use summary::Summary;
 
 // What summarising a block gives: the summary, or the number of the refusal.
-#[derive(Drop)]
+#[derive(Clone, Copy)]
 pub enum Summarised {
     Summary(Summary),
     Refused(u8),
@@ -27,7 +29,7 @@ impl Summarised {
 }
 
 // What a removal answers: the page row, or the number of the refusal.
-#[derive(Drop)]
+#[derive(Clone, Copy)]
 pub enum Removal {
     Done(PageRow),
     Refused(u8),
@@ -46,7 +48,7 @@ impl Removal {
 }
 
 // What a removal gives: its answer and, if it is done, the ring or chain; with a refusal it has no points.
-#[derive(Drop)]
+#[derive(Clone, Copy)]
 pub struct Removed {
     pub removal: Removal,
     pub ring: Ring,

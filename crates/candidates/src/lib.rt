@@ -1,4 +1,6 @@
 // One triangle over a piece: its rows, its sides and the worst it makes, from what the table keeps for the smaller pieces inside it.
+#![tactic(auto)]
+
 ghost use Rattle.std.specs.Prelude.{◌≡◌, ◌<◌, ◌≤◌, length, take};
 ghost use Rattle.keys.specs.Steps.{most_keys};
 ghost use Rattle.ring.specs.Ring.{max_ring};
@@ -11,7 +13,7 @@ use keys::MOST_KEYS;
 use quality::Quality;
 
 // The two rows of a triangle x, y, z: (a,x,y,z) and (x,y,z,b).
-#[derive(Drop)]
+#[derive(Clone, Copy)]
 pub struct Bipyramid {
     pub a: u8,
     pub x: u8,
@@ -21,7 +23,7 @@ pub struct Bipyramid {
 }
 
 // A triangle's side: two neighbours of the ring, a diagonal with its piece's best worst, or a diagonal that cannot be taken.
-#[derive(Drop)]
+#[derive(Clone, Copy)]
 pub enum Side {
     Neighbours,
     Diagonal(Quality),

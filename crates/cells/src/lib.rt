@@ -1,4 +1,6 @@
 // One cell of the table of pieces: where it stands, and a best worst and an apex packed into flat arrays.
+#![tactic(auto)]
+
 ghost use Rattle.std.specs.Prelude.{◌≡◌, ◌+◌, ◌<◌, ◌≤◌, length, get_or};
 ghost use Rattle.ring.specs.Ring.{max_ring};
 ghost use Rattle.cells.specs.Steps.{best_of, cell_at, cell_of, cells, kind_code, read_best};
@@ -10,21 +12,21 @@ use ring::MAX_RING;
 pub const CELLS: usize = (MAX_RING - 1) * (MAX_RING - 2) / 2;
 
 // The best worst of a piece, or the mark.
-#[derive(Drop)]
+#[derive(Clone, Copy)]
 pub enum Best {
     Mark,
     Worst(Quality),
 }
 
 // What the apexes looked at have given: the apex to take and the best worst with it.
-#[derive(Drop)]
+#[derive(Clone, Copy)]
 pub enum Choice {
     Nothing,
     Apex(u8, Quality),
 }
 
 // What one cell of the table keeps.
-#[derive(Drop)]
+#[derive(Clone, Copy)]
 pub struct Cell {
     pub kind: u8,
     pub num: u64,

@@ -1,4 +1,6 @@
 // The best apex of a piece, of equals the first, from what the table keeps for the smaller pieces inside it.
+#![tactic(auto)]
+
 ghost use Rattle.std.specs.Prelude.{◌≡◌, ◌+◌, ◌≤◌, length, take};
 ghost use Rattle.keys.specs.Steps.{most_keys};
 ghost use Rattle.ring.specs.Ring.{Site, m, max_ring};

@@ -1,4 +1,6 @@
 // The quality of the row over four points, by its parts.
+#![tactic(auto)]
+
 ghost use Rattle.std.specs.Prelude.{◌≡◌, length};
 ghost use Rattle.corners.specs.Corners.{corner_bytes, kind_number, measured, parts, parts_of, quality_in};
 

@@ -1,4 +1,6 @@
 // How many cases there are of each call and answer, and how many agree.
+#![tactic(auto)]
+
 ghost use Rattle.std.specs.Prelude.{◌≡◌, ◌*◌, ◌<◌};
 ghost use Rattle.counts.specs.CaseCounts.{calls, answers, no_cases, with_one, cell_at, total_of, counted};
 
@@ -11,7 +13,7 @@ const ANSWERS: usize = 24;
 pub const CELLS: usize = CALLS * ANSWERS;
 
 // One cell for each call and answer.
-#[derive(Drop)]
+#[derive(Clone, Copy)]
 pub struct Counts {
     pub cases: [u64; CELLS],
     pub agreeing: [u64; CELLS],
@@ -76,7 +78,7 @@ pub fn total(cells: [u64; CELLS]) -> u64
 }
 
 // One call and answer.
-#[derive(Drop)]
+#[derive(Clone, Copy)]
 pub struct Cell {
     pub call: usize,
     pub answer: usize,

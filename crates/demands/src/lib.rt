@@ -1,1 +1,2 @@
 // What is demanded of any kernel, and why ours meets it; nothing here runs.
+#![tactic(auto)]

@@ -1,4 +1,6 @@
 // What the page is shown: the quality of each row of a block, one f64 a row; and the page row.
+#![tactic(auto)]
+
 ghost use Rattle.std.specs.Prelude.{◌≤◌, ◌≡◌, length, get_or};
 ghost use Rattle.page.specs.Page.{plus_zero, shown, page_row};
 ghost use Rattle.layout.specs.Layout.{max_rows};

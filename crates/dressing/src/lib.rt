@@ -1,4 +1,6 @@
 // Marks and rows that go: whether a marked face would go, and the marks of the rows that take their place.
+#![tactic(auto)]
+
 ghost use Rattle.std.specs.Prelude.{◌+◌, ◌-◌, ◌*◌, ◌≤◌, not, ◌&&◌, [], ◌∷◌, map, ◌≡◌, T, length, take};
 ghost use Rattle.lists.specs.Lists.{every, any, those, has, numbers_from};
 ghost use Rattle.rows.specs.Rows.{rows_at, row_size, row_in, rows_in, with_rows, holds_face};

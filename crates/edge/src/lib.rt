@@ -1,4 +1,6 @@
 // An edge in a block: the block and the output block are right, the ends are put in order and the ring or chain round them is found.
+#![tactic(auto)]
+
 ghost use Rattle.std.specs.Prelude.{◌<◌, min, max, ◌≡◌};
 ghost use Rattle.answers.specs.Answers.{first_refusal, answer_of};
 ghost use Rattle.block.specs.Opening.{open_answer};

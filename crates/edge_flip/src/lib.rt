@@ -1,4 +1,6 @@
 // The 3-2 flip of an edge in a block that opens: three rows round it become two.
+#![tactic(auto)]
+
 ghost use Rattle.std.specs.Prelude.{[], ◌∷◌, ◌≡◌, length};
 ghost use Rattle.layout.specs.Layout.{block_bytes};
 ghost use Rattle.answers.specs.Answers.{answer_of};

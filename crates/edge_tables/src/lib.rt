@@ -1,4 +1,6 @@
 // The ring round an edge of a block, and its apex by the table of its pieces.
+#![tactic(auto)]
+
 ghost use Rattle.std.specs.Prelude.{[], ◌≡◌};
 ghost use Rattle.ring.specs.Ring.{ring_with};
 ghost use Rattle.edge_tables.specs.EdgeTables.{ring_at, top_apex};

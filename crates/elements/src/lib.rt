@@ -1,4 +1,6 @@
 // A summary and a page row as the elements of an array. Unless the answer is 0 every element stays as it came.
+#![tactic(auto)]
+
 ghost use Rattle.std.specs.Prelude.{◌≡◌, length};
 ghost use Rattle.calls.specs.Summarising.{summary_number};
 ghost use Rattle.calls.specs.Removing.{removal_number};

@@ -1,5 +1,7 @@
 // Fractions of whole numbers in 64 bits: which of two is the smaller, and a quotient rounded up.
 // Every input has an answer, a denominator of 0 included, and nothing is ever too large.
+#![tactic(auto)]
+
 ghost use Rattle.std.specs.Prelude.{◌≡◌};
 ghost use Rattle.exact.specs.Fractions.{is_less, rounded_up};
 

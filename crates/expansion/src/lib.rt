@@ -1,4 +1,6 @@
 // The new rows of the tree that a table of apexes stands for, in written order.
+#![tactic(auto)]
+
 ghost use Rattle.std.specs.Prelude.{◌≡◌, ◌+◌, ◌-◌, ◌*◌, ◌<◌, ◌≤◌, length, get_or};
 ghost use Rattle.rows.specs.Rows.{rows_at, row_size, with_rows};
 ghost use Rattle.ring.specs.Ring.{Site, max_ring};

@@ -1,4 +1,6 @@
 // What a call gives in bytes, held against what its record stores: the answer, the output, the ring and the fields.
+#![tactic(auto)]
+
 ghost use Rattle.std.specs.Prelude.{◌≤◌, ◌≡◌, eqb, length};
 ghost use Rattle.lists.specs.Lists.{same as sameAs};
 ghost use Rattle.answers.specs.Answers.{number_of};

@@ -1,4 +1,6 @@
 // A face in a table: whether its numbers are right, the rows that hold it and their apexes, and the three rows that take their place.
+#![tactic(auto)]
+
 ghost use Rattle.std.specs.Prelude.{◌+◌, ◌*◌, ◌≤◌, ◌<◌, min, max, not, [], ◌∷◌, ◌≡◌, length};
 ghost use Rattle.lists.specs.Lists.{has};
 ghost use Rattle.rows.specs.Rows.{rows_at, row_size, rows_in, with_rows};
@@ -90,7 +92,7 @@ fn apex_over(row: Row, x: u8, y: u8, z: u8) -> u8
 // ---- the rows that hold the face
 
 // How many they are, the smaller apex and the other, the row of the smaller, and their regions.
-#[derive(Drop)]
+#[derive(Clone, Copy)]
 pub struct Sharing {
     pub n: usize,
     pub a: u8,

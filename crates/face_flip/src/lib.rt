@@ -1,4 +1,6 @@
 // The 2-3 flip of a face in a block that opens: a face in two rows becomes an edge in three.
+#![tactic(auto)]
+
 ghost use Rattle.std.specs.Prelude.{[], ◌∷◌, ◌≡◌, length};
 ghost use Rattle.layout.specs.Layout.{block_bytes};
 ghost use Rattle.answers.specs.Answers.{answer_of};

@@ -1,4 +1,6 @@
 // What a call gives in numbers, held against what its record stores: the page row, the summary, or the refusal instead.
+#![tactic(auto)]
+
 ghost use Rattle.std.specs.Prelude.{◌≡◌, length};
 ghost use Rattle.records.specs.Records.{record_bytes};
 ghost use Rattle.figures.specs.Figures.{has_bits, page_is, worst_is, octave_is, summary_is, summarised_is, removal_is};

@@ -1,4 +1,6 @@
 // The table of pieces, filled in place: each cell behind those of the smaller pieces inside its own.
+#![tactic(auto)]
+
 ghost use Rattle.std.specs.Prelude.{◌≡◌, ◌<◌, ◌≤◌, length, set, take};
 ghost use Rattle.keys.specs.Steps.{most_keys};
 ghost use Rattle.ring.specs.Ring.{Site, m as size_of, max_ring, min_ring};

@@ -1,4 +1,6 @@
 // Whether a chain is flat, how many rows go, and how many there are afterwards.
+#![tactic(auto)]
+
 ghost use Rattle.std.specs.Prelude.{◌+◌, ◌-◌, ◌*◌, ◌≤◌, ◌<◌, cond, not, ◌||◌, ◌≡◌, pos};
 ghost use Rattle.volume.specs.Volume.{points_in, same_z};
 ghost use Rattle.rows.specs.RowMeasure.{row_d};

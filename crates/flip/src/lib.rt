@@ -1,4 +1,6 @@
 // The flip, from all its inputs: two numbers are the ends of an edge, three are a face.
+#![tactic(auto)]
+
 ghost use Rattle.std.specs.Prelude.{◌≡◌};
 ghost use Rattle.answers.specs.Answers.{answer_of};
 ghost use Rattle.calls.specs.Flipping.{flip_answer, flip_bytes};

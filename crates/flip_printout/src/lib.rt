@@ -1,4 +1,6 @@
 // What the program prints of a flip, as bytes: a report, or the line of a refusal.
+#![tactic(auto)]
+
 ghost use Rattle.std.specs.Prelude.{◌≤◌, ◌≡◌, length};
 ghost use Rattle.flip_printout.specs.FlipPrintout.{flip_printout};
 ghost use Rattle.text.specs.Texts.{text_bytes, text_of};

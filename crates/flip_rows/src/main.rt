@@ -1,4 +1,5 @@
 // Flips rows: a block and the numbers of an edge or a face on standard input, the printout on standard output.
+#![tactic(auto)]
 
 // A block and four numbers: what stands behind the fourth changes nothing.
 const MOST_BYTES: usize = 516;

@@ -1,1 +1,2 @@
 // Theorems about blocks with nearly 60 rows; nothing that runs.
+#![tactic(auto)]

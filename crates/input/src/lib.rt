@@ -1,4 +1,6 @@
 // What the programs take: a block, then numbers of a byte each; a removal's are the two ends.
+#![tactic(auto)]
+
 ghost use Rattle.std.specs.Prelude.{◌+◌, min, ◌≡◌, eqb, length};
 ghost use Rattle.layout.specs.Layout.{block_bytes, byte};
 ghost use Rattle.input.specs.Steps.{numbers_of};
@@ -11,7 +13,7 @@ const INPUT_BYTES: usize = BLOCK_BYTES + 2;
 const MOST_NUMBERS: usize = 4;
 
 // The first n of them; those behind are zero.
-#[derive(Drop)]
+#[derive(Clone, Copy)]
 pub struct Numbers {
     pub n: usize,
     pub all: [usize; MOST_NUMBERS],

@@ -1,1 +1,2 @@
 // Blocks that show what can happen; nothing here runs.
+#![tactic(auto)]

@@ -1,4 +1,6 @@
 // The faces of kept rows that can matter, gathered once and then looked up: those whose numbers are all among a, b, v1..vm.
+#![tactic(auto)]
+
 ghost use Rattle.std.specs.Prelude.{◌≡◌, [], ◌∷◌, ◌++◌, false, cond, ◌||◌, ◌+◌, ◌*◌, ◌%◌, ◌<◌, ◌≤◌, length, take};
 ghost use Rattle.lists.specs.Lists.{has};
 ghost use Rattle.rows.specs.Rows.{rows_at, row_size, rows_in};
@@ -13,7 +15,7 @@ use ring::MAX_RING;
 use rows::Row;
 
 // The points that new rows have: the ends, and v1 to vm from place 0 on.
-#[derive(Drop)]
+#[derive(Clone, Copy)]
 pub struct Rim {
     pub a: u8,
     pub b: u8,

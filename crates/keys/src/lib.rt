@@ -1,4 +1,6 @@
 // Directed faces as numbers, and by them the mesh rule, on a table of rows as a byte slice with a count.
+#![tactic(auto)]
+
 ghost use Rattle.std.specs.Prelude.{◌+◌, ◌*◌, ◌<◌, ◌≤◌, min, ◌≡◌, not, ◌++◌, length, take, drop};
 ghost use Rattle.lists.specs.Lists.{every, any, has};
 ghost use Rattle.rows.specs.Rows.{rows_at, row_size, rows_in};

@@ -1,4 +1,6 @@
 // The 512 bytes of a patch: where each field stands, the fields read, and the two sums read and written.
+#![tactic(auto)]
+
 ghost use Rattle.std.specs.Prelude.{◌≡◌, ◌+◌, ◌/◌, ◌%◌, ◌<◌, ◌≤◌, not, ◌&&◌, ◌++◌, length, take, drop, ◌==◌, slice_index, slice_set};
 ghost use Rattle.layout.specs.Layout.{block_bytes, body_bytes, is_version, sums_of, sealed, sum_wrong, open_fields, no_fields};
 
@@ -26,14 +28,14 @@ pub const COORDINATE_BYTES: usize = ROWS_AT - POINTS_AT;
 pub const TABLE_BYTES: usize = BODY_BYTES - ROWS_AT;
 
 // The two running sums of a block.
-#[derive(Drop)]
+#[derive(Clone, Copy)]
 pub struct Sums {
     pub first: u16,
     pub second: u16,
 }
 
 // The fields of a block: the version, the counts, the 64 points of 3 bytes and the 60 rows of 5 bytes.
-#[derive(Drop)]
+#[derive(Clone, Copy)]
 pub struct Fields {
     pub version: u8,
     pub points: u8,

@@ -1,4 +1,6 @@
 // The lines of a printout, each put behind a text.
+#![tactic(auto)]
+
 ghost use mathlib.Core.List.{flat_map};
 ghost use Rattle.std.specs.Prelude.{◌≡◌, ◌+◌, ◌*◌, ◌≤◌, length, take, drop};
 ghost use Rattle.rows.specs.Rows.{rows_at, row_size, rows_in};

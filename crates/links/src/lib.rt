@@ -1,4 +1,6 @@
 // The links round an edge, and the regions of its rows.
+#![tactic(auto)]
+
 ghost use Rattle.std.specs.Prelude.{◌≡◌, [], ◌∷◌, ◌++◌, ◌+◌, ◌<◌, ◌≤◌};
 ghost use Rattle.lists.specs.Lists.{those};
 ghost use Rattle.rows.specs.Rows.{rows_in, holds_edge};
@@ -11,14 +13,14 @@ use layout::MAX_ROWS;
 use rows::{Regions, Row};
 
 // A link v to w.
-#[derive(Drop)]
+#[derive(Clone, Copy)]
 pub struct Link {
     pub v: u8,
     pub w: u8,
 }
 
 // The n rows round an edge, in the order of the table: row i stands at places[i], and its link goes from starts[i] to ends[i].
-#[derive(Drop)]
+#[derive(Clone, Copy)]
 pub struct Links {
     pub n: usize,
     pub places: [u8; MAX_ROWS],
@@ -27,7 +29,7 @@ pub struct Links {
 }
 
 // The rows round an edge: their links, and their regions.
-#[derive(Drop)]
+#[derive(Clone, Copy)]
 pub struct Round {
     pub links: Links,
     pub regions: Regions,

@@ -1,4 +1,6 @@
 // Marked faces of the rows of a table: their keys, gathered, and by them whether both rows at a face agree.
+#![tactic(auto)]
+
 ghost use Rattle.std.specs.Prelude.{◌+◌, ◌*◌, ◌<◌, ◌≤◌, true, false, cond, not, ◌||◌, [], ◌∷◌, ◌++◌, ◌≡◌, length, take};
 ghost use Rattle.lists.specs.Lists.{every, has};
 ghost use Rattle.rows.specs.Rows.{rows_at, row_size, rows_in};

@@ -1,4 +1,6 @@
 // The numbers of the rows of a table: below the point count and all different.
+#![tactic(auto)]
+
 ghost use Rattle.std.specs.Prelude.{◌+◌, ◌*◌, ◌<◌, ◌≤◌, ◌≡◌, ltb, length};
 ghost use Rattle.lists.specs.Lists.{every, different};
 ghost use Rattle.rows.specs.Rows.{rows_at, row_size, rows_in, numbers};

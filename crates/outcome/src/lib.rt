@@ -1,4 +1,6 @@
 // The removal of an edge that is decided, carried out: the rows afterwards, written where they belong, and the page row.
+#![tactic(auto)]
+
 ghost use Rattle.std.specs.Prelude.{◌≡◌, ◌≤◌, length};
 ghost use Rattle.rows.specs.Rows.{version};
 ghost use Rattle.layout.specs.Layout.{body_bytes};
@@ -17,7 +19,7 @@ use ring::Ring;
 use rows::ROWS_AT;
 
 // How many rows there are afterwards, and the page row.
-#[derive(Drop)]
+#[derive(Clone, Copy)]
 pub struct After {
     pub n: usize,
     pub page: PageRow,

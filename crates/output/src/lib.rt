@@ -1,4 +1,6 @@
 // The block afterwards: the rows that stay, the new rows behind them, and the sums made anew.
+#![tactic(auto)]
+
 ghost use Rattle.std.specs.Prelude.{◌≡◌, ◌+◌, ◌*◌, ◌≤◌, length, take, set, replicate};
 ghost use Rattle.rows.specs.Rows.{rows_at, row_size, rows_in, with_rows};
 ghost use Rattle.layout.specs.Layout.{block_bytes, body_bytes, max_rows, sealed};

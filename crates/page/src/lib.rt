@@ -1,4 +1,6 @@
 // What the page shows: one f64 of a quality, and the record of a removal.
+#![tactic(auto)]
+
 ghost use Rattle.std.specs.Prelude.{◌≡◌, ◌<◌};
 ghost use Rattle.page.specs.Near.{ShownNear};
 ghost use Rattle.page.specs.Page.{page_row, quotient, shown, signed_size};
@@ -8,7 +10,7 @@ use quality::{Kind, Quality};
 // ---- shown quality
 
 // What the page shows of a quality.
-#[derive(Drop)]
+#[derive(Clone, Copy)]
 pub enum Shown {
     Flat,
     Upright(f64),
@@ -53,7 +55,7 @@ impl Shown {
 // ---- page row
 
 // The page's record of a removal: the sizes of the worst before and after, with their signs.
-#[derive(Drop)]
+#[derive(Clone, Copy)]
 pub struct PageRow {
     pub before: f64,
     pub after: f64,

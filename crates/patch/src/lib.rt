@@ -1,4 +1,6 @@
 // The public calls on a patch block.
+#![tactic(auto)]
+
 ghost use Rattle.std.specs.Prelude.{◌≡◌};
 ghost use Rattle.calls.specs.Summarising.{summary_gives};
 

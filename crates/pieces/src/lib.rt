@@ -1,4 +1,6 @@
 // The table of pieces of a ring or a chain: filled, and the whole marked where a kept row bars it.
+#![tactic(auto)]
+
 ghost use Rattle.pieces.specs.Steps.{KeepsTable};
 ghost use Rattle.kept_faces.specs.Steps.{Fillable};
 ghost use Rattle.triangulation.specs.Steps.{site_in};
@@ -12,7 +14,7 @@ use ring::{MAX_RING, Ring};
 // The ring with, for every piece (i,j), its best worst and its chosen apex, at one place of four flat arrays.
 // kinds: 0 for the mark of a piece without an admissible triangulation, or of a whole chain that a kept row bars; 1 inverted, 2 flat,
 // 3 upright.
-#[derive(Drop)]
+#[derive(Clone, Copy)]
 pub struct Pieces {
     pub m: usize,
     pub nums: [u64; CELLS],

@@ -1,1 +1,2 @@
 // Theorems about the sample plate; nothing that runs.
+#![tactic(auto)]

@@ -1,4 +1,6 @@
 // What the program prints, as bytes: a report of a removal, or the line of a refusal.
+#![tactic(auto)]
+
 ghost use Rattle.std.specs.Prelude.{◌≤◌, ◌≡◌, length};
 ghost use Rattle.printout.specs.Printout.{printout};
 ghost use Rattle.text.specs.Texts.{text_bytes, text_of};

@@ -1,4 +1,6 @@
 // What the benchmark calls: the kernel's inner functions behind C names, as thin as can be.
+#![tactic(auto)]
+
 ghost use Rattle.std.specs.Prelude.{◌≡◌};
 ghost use Rattle.exact.specs.Fractions.{is_less};
 ghost use Rattle.score.specs.Score.{score_of};

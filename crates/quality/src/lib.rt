@@ -1,4 +1,6 @@
 // How good a tetrahedron is, as an exact fraction, and the order of such fractions.
+#![tactic(auto)]
+
 ghost use Rattle.std.specs.Prelude.{cond, ◌≡◌, ◌≤◌, nat_abs};
 ghost use Rattle.volume.specs.Steps.{volume_limit, spread_limit};
 ghost use Rattle.quality.specs.Quality.{quality, quality_of, is_upright, is_inverted, worse, worse_of};
@@ -7,7 +9,7 @@ ghost use Rattle.quality.specs.Steps.{from_parts};
 use volume::Point;
 
 // How a row stands: D over 0, D = 0, D below 0.
-#[derive(Drop)]
+#[derive(Clone, Copy)]
 pub enum Kind {
     Upright,
     Flat,
@@ -15,7 +17,7 @@ pub enum Kind {
 }
 
 // An exact fraction num / den with its sign; den is over 0.
-#[derive(Drop)]
+#[derive(Clone, Copy)]
 pub struct Quality {
     kind: Kind,
     num: u64,

@@ -3,6 +3,8 @@
 //     0 call                  4 bytes of the output     8 edge, or numbers of a flip    98 how many a flip is given
 //     1 answer                6 filler of the output   32 summary or page              112 input
 //     2 bytes of the input    7 m                      88 ring                         632 output after the call, of open the fields
+#![tactic(auto)]
+
 ghost use Rattle.std.specs.Prelude.{◌+◌, ◌≤◌, ◌<◌, ◌≡◌, length};
 ghost use Rattle.records.specs.Records.{two_at, four_at, number_at, record_bytes, number_in, four_numbers, count_in, figure_in, length_at};
 

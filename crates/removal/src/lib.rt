@@ -1,4 +1,6 @@
 // The removal of an edge: the lengths and the opening, the attempt, and the block afterwards; and its page row alone.
+#![tactic(auto)]
+
 ghost use Rattle.std.specs.Prelude.{◌≡◌, replicate};
 ghost use Rattle.layout.specs.Layout.{block_bytes};
 ghost use Rattle.calls.specs.Removing.{remove_gives, remove_bytes};

@@ -1,4 +1,5 @@
 // Removes an edge: a block and the two ends on standard input, the printout on standard output.
+#![tactic(auto)]
 
 // One byte more than an input has, so that a longer one is seen.
 const MOST_BYTES: usize = 515;

@@ -1,4 +1,6 @@
 // The best triangulation of a ring or a chain: its worst and its apexes; and carried out, in the place of the rows afterwards.
+#![tactic(auto)]
+
 ghost use Rattle.std.specs.Prelude.{◌≡◌, length};
 ghost use Rattle.rows.specs.Rows.{with_rows};
 ghost use Rattle.triangulation.specs.Steps.{site_in};
@@ -11,7 +13,7 @@ use kept_faces::Rim;
 use ring::Ring;
 
 // The best worst of a ring or chain, or the mark; and, where there is no mark, the apexes of the chosen triangulation.
-#[derive(Drop)]
+#[derive(Clone, Copy)]
 pub struct Way {
     pub best: Best,
     pub apexes: [u8; CELLS],

@@ -1,4 +1,6 @@
 // The lines of an answer alone, and of a removal or a flip that is done; a text has room for all of them.
+#![tactic(auto)]
+
 ghost use Rattle.std.specs.Prelude.{◌≤◌, ◌≡◌};
 ghost use Rattle.layout.specs.Layout.{row_count};
 ghost use Rattle.block.specs.Opening.{open_answer};

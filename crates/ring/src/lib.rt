@@ -1,4 +1,6 @@
 // The ring round an edge, or the open chain.
+#![tactic(auto)]
+
 ghost use Rattle.std.specs.Prelude.{◌≡◌, ◌≤◌, length, take};
 ghost use Rattle.rows.specs.Rows.{rows_in};
 ghost use Rattle.links.specs.Steps.{Table};
@@ -16,7 +18,7 @@ const MIN_RING: usize = 3;
 pub const MAX_RING: usize = 10;
 
 // The ring, or the chain: m points, v1 to vm from place 0 on; the places after them are zero.
-#[derive(Drop)]
+#[derive(Clone, Copy)]
 pub struct Ring {
     pub m: u8,
     pub v: [u8; MAX_RING],
@@ -32,7 +34,7 @@ impl Ring {
 
 // What finding gives: the answer and, if it is done, whether the links close, the ring or the chain, and the regions of its rows; with a
 // refusal it has no points and no rows.
-#[derive(Drop)]
+#[derive(Clone, Copy)]
 pub struct Found {
     pub answer: Answer,
     pub closed: bool,

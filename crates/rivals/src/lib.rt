@@ -1,1 +1,2 @@
 // Useless kernels, and why they fail the demands; nothing here runs.
+#![tactic(auto)]

@@ -1,4 +1,6 @@
 // The rows of a table: reading and writing one by the version of its block, which numbers a row holds, and the regions of some rows.
+#![tactic(auto)]
+
 ghost use Rattle.std.specs.Prelude.{◌+◌, ◌*◌, ◌≤◌, ◌<◌, ◌≡◌, true, cond, [], ◌∷◌, length};
 ghost use Rattle.rows.specs.Labels.{no_marks, labels_of, label_byte, mark_bits};
 ghost use Rattle.rows.specs.Rows.{rows_at, row_size, row_in, with_rows, holds, holds_edge, holds_face};
@@ -18,7 +20,7 @@ pub const MARKED_VERSION: u8 = 2;
 pub const ROW_SIZE: usize = 5;
 
 // Which of the four directed faces of a row are marked.
-#[derive(Drop)]
+#[derive(Clone, Copy)]
 pub struct Marks {
     pub qrs: bool,
     pub psr: bool,
@@ -27,14 +29,14 @@ pub struct Marks {
 }
 
 // What the last byte of a row says of it.
-#[derive(Drop)]
+#[derive(Clone, Copy)]
 pub struct Labels {
     pub region: u8,
     pub marks: Marks,
 }
 
 // A tetrahedron: four point numbers, the region, and the marks of its faces.
-#[derive(Drop)]
+#[derive(Clone, Copy)]
 pub struct Row {
     pub p: u8,
     pub q: u8,
@@ -202,7 +204,7 @@ pub fn holds_face(row: Row, x: u8, y: u8, z: u8) -> bool
 }
 
 // The region of some rows, or that they have more than one.
-#[derive(Drop)]
+#[derive(Clone, Copy)]
 pub enum Regions {
     One(u8),
     Several,

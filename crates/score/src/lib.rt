@@ -1,4 +1,6 @@
 // What whole numbers say of qualities: score, badness and octave, each for every input, and the marks where there is none.
+#![tactic(auto)]
+
 ghost use Rattle.std.specs.Prelude.{eqb, leb, cond, ◌≡◌, ◌*◌, ◌^◌, ◌≤◌};
 ghost use Rattle.lists.specs.Lists.{largest};
 ghost use Rattle.score.specs.Score.{badness, highest_score, octave_of, score, score_at, score_factor};
@@ -8,13 +10,13 @@ use quality::{Kind, Quality};
 // ---- score
 
 // A whole number from 0 to 1000.
-#[derive(Drop)]
+#[derive(Clone, Copy)]
 pub struct Score {
     value: u16,
 }
 
 // The score of the worst row, or the mark of a patch with no rows.
-#[derive(Drop)]
+#[derive(Clone, Copy)]
 pub enum WorstScore {
     Worst(Score),
     NoRows,
@@ -86,7 +88,7 @@ fn score_of(num: u64, den: u64) -> u16
 // ---- badness
 
 // The inverse of a quality, rounded up; there is one for an upright row only.
-#[derive(Drop)]
+#[derive(Clone, Copy)]
 pub enum Badness {
     Rounded(u64),
     NotUpright,
@@ -113,7 +115,7 @@ impl Badness {
 // ---- octave
 
 // The octave, or the mark of a patch with no upright row.
-#[derive(Drop)]
+#[derive(Clone, Copy)]
 pub enum Octave {
     Exponent(u8),
     NoUpright,

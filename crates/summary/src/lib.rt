@@ -1,4 +1,6 @@
 // The summary of a patch: counts, the worst score and the octave, in one pass over its rows.
+#![tactic(auto)]
+
 ghost use Rattle.std.specs.Prelude.{◌≡◌, ◌<◌};
 ghost use Rattle.volume.specs.Steps.{largest_byte};
 ghost use Rattle.score.specs.Score.{added, badness};
@@ -12,7 +14,7 @@ use score::{Badness, Octave, Score, WorstScore};
 use tally::Met;
 
 // Counts of upright, flat and inverted rows, the score of the worst row, and the octave.
-#[derive(Drop)]
+#[derive(Clone, Copy)]
 pub struct Summary {
     pub upright: u8,
     pub flat: u8,
@@ -22,7 +24,7 @@ pub struct Summary {
 }
 
 // How many rows of each kind have been met.
-#[derive(Drop)]
+#[derive(Clone, Copy)]
 struct Counts {
     upright: u8,
     flat: u8,
@@ -64,7 +66,7 @@ fn score_met(met: Met) -> WorstScore
 }
 
 // What the rows met so far come to.
-#[derive(Drop)]
+#[derive(Clone, Copy)]
 struct Tally {
     counts: Counts,
     total: u64,

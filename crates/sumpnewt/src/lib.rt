@@ -1,5 +1,7 @@
 // The C boundary: the public calls behind C names, each returning the number of its answer. include/sumpnewt.h is their header.
 // A slice is a pointer and a length there. Unless the number is 0 every output element stays as it came.
+#![tactic(auto)]
+
 ghost use Rattle.std.specs.Prelude.{◌≡◌};
 ghost use Rattle.block.specs.Opening.{open_answer, seal_answer, seal_bytes};
 ghost use Rattle.display.specs.Display.{shown_answer, shown_elements};

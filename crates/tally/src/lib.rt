@@ -1,5 +1,7 @@
 // The rows of a patch, measured: D and quality of one row, and the worst row of a table. `count`, of points, is for the contracts alone:
 // it says which patch is measured.
+#![tactic(auto)]
+
 ghost use Rattle.std.specs.Prelude.{map, ◌≡◌};
 ghost use Rattle.std.proofs.Math.Option.{get_or};
 ghost use Rattle.lists.specs.Lists.{those};
@@ -42,7 +44,7 @@ pub fn row_volume(coordinates: &[u8], count: usize, row: Row) -> i64
 // ---- the worst
 
 // The worst of the qualities met so far.
-#[derive(Drop)]
+#[derive(Clone, Copy)]
 pub enum Met {
     Nothing,
     Worst(Quality),

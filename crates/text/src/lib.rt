@@ -1,4 +1,6 @@
 // A text: bytes in the front of an array of 512; a byte, a word or a number is put behind them.
+#![tactic(auto)]
+
 ghost use Rattle.std.specs.Prelude.{[], ◌∷◌, ◌≡◌, ◌<◌};
 ghost use Rattle.text.specs.Decimal.{digit as digitOf, decimal};
 ghost use Rattle.text.specs.Steps.{held, Behind};
@@ -7,7 +9,7 @@ ghost use Rattle.text.specs.Steps.{held, Behind};
 pub const TEXT_BYTES: usize = 512;
 
 // The first n bytes; those behind them are zero.
-#[derive(Drop)]
+#[derive(Clone, Copy)]
 pub struct Text {
     pub n: usize,
     pub bytes: [u8; TEXT_BYTES],

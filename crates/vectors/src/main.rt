@@ -1,4 +1,6 @@
 // Runs the stored cases through the public calls and prints how many of each call and answer agree.
+#![tactic(auto)]
+
 ghost use Rattle.std.specs.Prelude.{◌≡◌, length};
 ghost use Rattle.records.specs.Records.{record_bytes};
 ghost use Rattle.vectors.specs.Counting.{Counted, record_counted};

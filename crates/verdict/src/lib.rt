@@ -1,4 +1,6 @@
 // Whether a ring or chain is replaced: answers 19, 20, 23 and 14 to 16.
+#![tactic(auto)]
+
 ghost use Rattle.std.specs.Prelude.{◌≡◌};
 ghost use Rattle.rows.specs.Steps.{regions_of};
 ghost use Rattle.triangulation.specs.Steps.{site_in};
@@ -14,7 +16,7 @@ use ring::Ring;
 use rows::Regions;
 
 // Answers 19, 20, 23 and 14 to 16 of a removal and, with answer 0, the region of the rows that go and the apexes of the chosen triangulation.
-#[derive(Drop)]
+#[derive(Clone, Copy)]
 pub struct Plan {
     pub answer: Answer,
     pub region: u8,

@@ -1,4 +1,6 @@
 // The volume of a tetrahedron on the grid: its points, D and S. Coordinates are any bytes: nothing overflows.
+#![tactic(auto)]
+
 ghost use Rattle.std.specs.Prelude.{◌≡◌, ◌+◌, ◌*◌, ◌^◌, ◌≤◌, pos, nat_abs, ◌+ℤ◌, ◌-ℤ◌, ◌*ℤ◌, length};
 ghost use Rattle.volume.specs.Steps.{largest_byte, minor_limit, volume_limit, length_limit, spread_limit};
 ghost use Rattle.volume.specs.Volume.{point_size, point_in, determinant as determinantOf, D, S, squared_length};
@@ -6,7 +8,7 @@ ghost use Rattle.volume.specs.Volume.{point_size, point_in, determinant as deter
 // ---- points
 
 // A place on the grid.
-#[derive(Drop)]
+#[derive(Clone, Copy)]
 pub struct Point {
     pub x: u8,
     pub y: u8,

@@ -1,4 +1,6 @@
 // The walk along the links round an edge.
+#![tactic(auto)]
+
 ghost use Rattle.std.specs.Prelude.{◌≡◌, ◌<◌, ◌≤◌, length, false};
 ghost use Rattle.lists.specs.Lists.{has};
 ghost use Rattle.layout.specs.Layout.{max_rows};
@@ -14,7 +16,7 @@ use links::Links;
 pub const MOST_POINTS: usize = MAX_ROWS + 1;
 
 // A walk: whether it came back to its start, and the m points that it went by.
-#[derive(Drop)]
+#[derive(Clone, Copy)]
 pub struct Trail {
     pub closed: bool,
     pub m: usize,
