@@ -1,7 +1,8 @@
 -- A table of cells of k bytes each: what its cells are, written, is the table, and what is written is read back.
 -- By recursion over the cells, the table dropped by k bytes each time. Points are cells of 3 bytes, rows of 5.
-use Rattle.std.proofs.Common.{◌≡◌, ℕ, zero, suc, ◌+◌, ◌*◌, ◌≤◌, Bool, true, T, List, [], ◌∷◌, ◌++◌, map, length, get_or, take, drop, refl, ap, ◌∙◌, append_assoc, arith, length-append, length-drop, get_or-drop, take-add, drop_at}
+use Rattle.std.proofs.Common.{◌≡◌, ℕ, zero, suc, ◌+◌, ◌*◌, ◌≤◌, Bool, true, T, List, [], ◌∷◌, ◌++◌, map, length, get_or, take, drop, refl, ap, ◌∙◌, append_assoc, arith, length-append, length-drop, get_or-drop, take-add, drop_at, sym, subst}
 use mathlib.Core.List.{flat_map}
+use mathlib.Core.Path.{ap₂}
 use Rattle.lists.specs.Lists.{every, numbers_from}
 use Rattle.lists.proofs.Tests.{and_l, and_r}
 use Rattle.lists.proofs.Lists.{every_i, every_drop}
@@ -41,7 +42,7 @@ module _ {R : Type 0} {k : ℕ} {at : List ℕ → ℕ → R} {bytes : R → Lis
       ∙ ap (λ t. at t i) (drop_at (bytes r) table k (cells.size r)) in
       let head = cells.front r (and_l (fits r) (every fits rs) fit) table in
       let tail = map_next (at all) (at table) step 0 (length rs) ∙ read_back rs (and_r (fits r) (every fits rs) fit) rest in
-      rw e (cc)
+      subst (λ w. map (at w) (numbers_from 0 (suc (length rs))) ≡ r ∷ rs) (sym e) (ap₂ (λ x xs. x ∷ xs) head tail)
 
   -- what is read, written, is the table it was read from
   write_back : (table : List ℕ) → T (every is_byte table) → (n : ℕ) → k * n ≤ length table

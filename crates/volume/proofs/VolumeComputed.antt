@@ -12,7 +12,7 @@ use Rattle.volume.specs.Volume.{Arrow, D, S, determinant, squared_length}
 
 -- a call's signed result, read back from its bits
 pub read : {z v : ℤ} → mag z < 2 ^ 63 → z ≡ v → to_z w64 (of_z w64 z) ≡ v
-read ok e = to_z-of_z (sfits_of ok) ∙ e
+read ok e = to_z-of_z {w = w64} (sfits_of ok) ∙ e
 
 -- a determinant, from its rows' entries and three minors
 pub determinant_from :
