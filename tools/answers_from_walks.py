@@ -25,15 +25,19 @@ def plain(name):
 
 def blocks(text):
     """The declarations at the margin, each with the comments above it."""
-    out, now = [], []
-    lines = text.split("\n")
-    heads = []
-    for i, line in enumerate(lines):
-        starts = line and not line[0].isspace() and not line.startswith("--")
-        if starts or (line.startswith("--") and (not now or not now[-1].startswith("--"))):
-            if now and not (starts and all(l.startswith("--") or not l for l in now)):
+    out, now, name = [], [], None
+    for line in text.split("\n"):
+        if line.startswith("--"):
+            if now and not now[-1].startswith("--"):
+                out.append("\n".join(now).strip("\n"))
+                now, name = [], None
+        elif line and not line[0].isspace():
+            word = re.sub(r"^((abbrev|pub|unfoldable|opaque) )+", "", line).split()[0]
+            if word not in ("unfolding", name) and (name is not None or any(not l.startswith("--") and l.strip() for l in now)):
                 out.append("\n".join(now).strip("\n"))
                 now = []
+            if word != "unfolding":
+                name = word
         now.append(line)
     out.append("\n".join(now).strip("\n"))
     return [b for b in out if b.strip()]
@@ -45,15 +49,18 @@ class Turner:
         # old step -> new step
         self.steps = {}
         self.given = {}
+        self.fields = {}
         for i, (_, _, (old, new), _, _) in enumerate(data["places"]):
             if old:
-                self.steps.setdefault(old.replace("-", "_"), new)
+                key = old.replace("-", "_").lower()
+                self.steps.setdefault(key, new)
+                self.fields.setdefault(key, {}).update(dict(data["places"][i][4]))
             arm = data["arms"][i]
             if arm:
                 for field, at, *path in arm[2]:
                     path = path[0]
                     if path:
-                        self.given[at.replace("-", "_"), tuple(path)] = (arm[0], field)
+                        self.given[at.replace("-", "_").lower(), tuple(path)] = (arm[0], field)
         self.args = {}
         for old, new in data["args"]:
             m = re.match(r"\.(args|ranges) \.(\S+)$", old)
@@ -62,9 +69,10 @@ class Turner:
         self.goals = {}
         for old, new in data["needs"]:
             self.goals[plain(old)] = new
+            self.goals[plain(old.replace("part-", "slice-bounds-"))] = new
         self.loops = {old.replace("-", "_"): (new, names, changed) for ((old, new), names), changed in zip(data["loops"], data["changed"])}
         self.places = {p[0].replace("_", "-"): n for p, n in zip(data["places"], data["places_by_name"])}
-        self.pre = data.get("pre")
+        self.typed = {step: var for place in data["typed"] for var, step in place}
         self.walkers = set()
 
     def say(self, text):
@@ -74,21 +82,23 @@ class Turner:
 
     def path(self, root, fields, rooted):
         """A path from a place, without `.before` and with today's names."""
-        fields = list(fields)
+        fields = [{"type-inv": "type_inv", "well-formed": "well_formed"}.get(f, f) for f in fields]
         if "before" not in fields and not rooted:
             return root + "".join("." + f for f in fields)
         while fields and fields[0] == "before":
             fields.pop(0)
         if not fields:
             return root
-        first = fields[0].replace("-", "_")
+        first = fields[0].replace("-", "_").lower()
         rest = fields[1:]
         if first in ("pre", "requires"):
             return root + ".requires" + "".join("." + f for f in rest)
-        if first in ("fits", "ranges"):
+        if first in ("fits", "ranges") and first not in self.steps:
             return root + ".ranges" + "".join("." + self.args.get(f, f) for f in rest[:1]) + "".join("." + f for f in rest[1:])
         if first == "args":
             return root + ".args" + "".join("." + self.args.get(f, f) for f in rest[:1]) + "".join("." + f for f in rest[1:])
+        if rest and rest[0] == "given" and first in self.typed:
+            return f"{root}.type_inv.{self.typed[first]}" + "".join("." + f for f in rest[1:])
         if rest and rest[0] == "given":
             for n in range(len(rest), 0, -1):
                 if (first, tuple(rest[:n])) in self.given:
@@ -97,10 +107,11 @@ class Turner:
             self.say(f"a value that is told: .{'.'.join(fields)}")
         if first in self.steps:
             rest = [{"taken": "true", "left": "false", "inv": "invariant", "came": "branch"}.get(f, f) if i == 0 else f for i, f in enumerate(rest)]
+            rest = [self.fields[first].get(f, f) if i == 0 else f for i, f in enumerate(rest)]
             return root + "." + self.steps[first] + "".join("." + f for f in rest)
         if first in self.loops:
             return root + "." + self.loops[first][0] + "".join("." + ("invariant" if f == "inv" else f) for f in rest)
-        if fields[0] not in ("the_lifetimes", "well_formed", "auto"):
+        if fields[0] not in ("the_lifetimes", "well_formed", "well-formed", "auto"):
             self.say(f"no step of this name: {root}.{'.'.join(fields)}")
         return root + "".join("." + f for f in fields)
 
@@ -128,7 +139,10 @@ class Turner:
             return self.path(root, fields, root in rooted)
 
         # the root is no field
-        return re.sub(r"(?<![.\w'-])(" + IDENT + r")((?:\.[^\s(){}\[\],;.:=|\"`«»]+)+)", turn, text)
+        text = re.sub(r"(?<![.\w'-])(" + IDENT + r")((?:\.[^\s(){}\[\],;.:=|\"`«»]+)+)", turn, text)
+        # a test that is turned round says at once what was tested
+        part = r"(?:" + IDENT + r"(?:\.[^\s(){}\[\],;.:=|\"`«»]+)*|\((?:[^()]|\([^()]*\))*\))"
+        return re.sub(r"not-(true|false) " + part + r" (" + IDENT + r"(?:\.[\w-]+)+)\.\1-raw", r"\2.\1", text)
 
     # ---- declarations
 
@@ -169,7 +183,7 @@ class Turner:
         body = self.body(block[m.end() :], params)
         if "κs" in body.split():
             self.say(f"{new}: cites κs")
-        if body.strip() in ("search rules", "search needs", "omega arith"):
+        if not opened and body.strip() in ("search rules", "search needs", "omega arith"):
             return ""
         out = f"pub {new} : goal.{new}\n" + (opened + "\n" if opened else "") + f"{new} {' '.join(params)} ={body}"
         return (comment + "\n" if comment else "") + out

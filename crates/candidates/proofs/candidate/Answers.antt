@@ -1,0 +1,64 @@
+-- `candidate` is the definition's, test by test: with a barred side it is the mark, whatever the rest.
+use Prim.Native.Nat.{ℕ}
+use mathlib.Core.Bool.{Bool, true, false, cond}
+use mathlib.Core.List.{List}
+use mathlib.Core.Option.{Option, some, none}
+use mathlib.Core.Path.{◌≡◌, refl, sym, subst, ◌∙◌}
+use borrow.Author.Rules.{rules}
+use Rattle.quality.specs.declared.Quality.{Quality}
+use Rattle.candidates.specs.declared.Bipyramid.{Bipyramid}
+use Rattle.candidates.specs.declared.Side.{Side}
+use Rattle.candidates.specs.declared.Side.TheVariants.{Barred}
+use Rattle.kept_faces.specs.Steps.{used_by}
+use Rattle.candidates.specs.Steps.{beside_of, worst_over, candidate_over}
+use Rattle.candidates.proofs.candidate.Goals as goal
+
+abbrev mark : Option Quality
+mark = none
+
+mark-either-way : (b : Bool) → mark ≡ cond b mark mark
+mark-either-way true = refl
+mark-either-way false = refl
+
+right-marked : (b : Bool) (beside : Option Quality) → mark ≡ cond b mark (elim beside [ none ↦ mark | some q ↦ beside_of Barred q ])
+right-marked b none = mark-either-way b
+right-marked b (some q) = mark-either-way b
+
+module _ (coordinates keys : List ℕ) (rows : Bipyramid) (left right : Side) where
+  left-barred : left ≡ Barred → mark ≡ candidate_over coordinates keys rows left right
+  unfolding candidate_over
+  left-barred barred = rw barred (mark-either-way (used_by keys (rows.x, rows.y, rows.z)))
+
+  right-barred : right ≡ Barred → mark ≡ candidate_over coordinates keys rows left right
+  unfolding candidate_over
+  right-barred barred =
+      subst (λ (side : Side). mark ≡ candidate_over coordinates keys rows left side) (sym barred)
+      (right-marked (used_by keys (rows.x, rows.y, rows.z)) (beside_of left (worst_over coordinates rows)))
+
+pub returns-in-Barred : goal.returns-in-Barred
+returns-in-Barred c = left-barred _ _ _ _ _ c.in-Barred.is
+
+pub returns-in-Barred-right : goal.returns-in-Barred-right
+returns-in-Barred-right c = right-barred _ _ _ _ _ c.in-Barred-right.is
+
+pub returns-then-uses_either : goal.returns-then-uses_either
+unfolding candidate_over
+returns-then-uses_either c = rw (sym c.uses_either.ensures ∙ c.if-uses_either.true)
+
+pub returns-in_default-beside : goal.returns-in_default-beside
+unfolding candidate_over
+returns-in_default-beside c =
+    let b = c in
+    let w = b in
+    let e = w in
+    rw (sym e.uses_either.ensures ∙ e.if-uses_either.false, ← w.worst_of_two.ensures, ← b.beside.ensures, c.in_default-beside.is)
+
+pub returns : goal.returns
+unfolding candidate_over
+returns c =
+    let q = c in
+    let b = q in
+    let w = b in
+    let e = w in
+    c.beside-2.ensures
+    ∙ rw (sym e.uses_either.ensures ∙ e.if-uses_either.false, ← w.worst_of_two.ensures, ← b.beside.ensures, q.in-Worst.is)

@@ -1,0 +1,17 @@
+-- `cell_of` keeps a choice field by field.
+use borrow.Author.Rules.{rules}
+use Rattle.cells.proofs.cell_of.Goals as goal
+
+pub returns-in-Nothing : goal.returns-in-Nothing
+returns-in-Nothing c = rw c.in-Nothing.is
+
+pub returns-in-Apex : goal.returns-in-Apex
+returns-in-Apex c =
+    let k = c in
+    rw (
+      k.in-Apex.is,
+      c.kind_code.ensures,
+      k.kind.ensures,
+      c.num.ensures,
+      c.den.ensures,
+    )

@@ -1,0 +1,86 @@
+-- `choose` has kept what a loop over the apexes from i + 1 to below k keeps.
+use Prim.Native.Nat.{suc, ◌+◌, ◌≤◌, ◌<◌, ◌-◌}
+use mathlib.Core.Path.{◌≡◌, ap, ap₂, ◌∙◌}
+use native.Mathlib.Omega.{arith}
+use lib.ListN.{take}
+use borrow.Author.Rules.{rules}
+use Rattle.ring.specs.Ring.{Site, m}
+use Rattle.triangulation.specs.Steps.{candidate, leading}
+use Rattle.kept_faces.specs.Steps.{SiteRim}
+use Rattle.choice.specs.Steps.{Smaller}
+use Rattle.candidates.specs.Steps.{candidate_over, two_over}
+use Rattle.cells.specs.Steps.{best_in, choice_of}
+use Rattle.choice.proofs.CandidateComputed.{step_is, candidate_is}
+use Rattle.choice.proofs.choose.Goals as goal
+
+pub loop-k-init : goal.loop-k-init
+unfolding leading
+loop-k-init c =
+    let i = c.args.i in
+    let none_yet : i + 1 - suc i ≡ 0 = omega arith in
+    (omega arith, omega arith, λ site given end smaller. rw none_yet)
+
+pub two_over-rows-requires : goal.two_over-rows-requires
+two_over-rows-requires c = (omega arith, omega arith, omega arith, omega arith)
+
+pub side_at-left-requires : goal.side_at-left-requires
+side_at-left-requires c =
+    let s = c in
+    (s.requires.1.0, (omega arith, omega arith, omega arith))
+
+pub side_at-right-requires : goal.side_at-right-requires
+side_at-right-requires c =
+    let s = c in
+    (s.requires.1.0, (omega arith, omega arith, omega arith))
+
+pub candidate-requires : goal.candidate-requires
+candidate-requires c =
+    let two = c in
+    let l = two in
+    let s = l in
+    let rim = s.requires.0.0 in (
+      s.requires.0.1,
+      s.requires.0.2,
+      rw two.two_over-rows.ensures (record {
+        a = rim.a;
+        x = rim.v (s.args.i - 1) (omega arith);
+        y = rim.v (l.loop-k.k - 1) (omega arith);
+        z = rim.v (s.args.j - 1) (omega arith);
+        b = rim.b;
+      }),
+    )
+
+pub loop-k-preserved : goal.loop-k-preserved
+loop-k-preserved c =
+    let right = c in
+    let left = right in
+    let two = left in
+    let l = two in
+    let a = l.args in
+    let kinds = a.kinds.now in
+    let nums = a.nums.now in
+    let dens = a.dens.now in
+    let used = a.used.now in
+    let k = l.loop-k.k in (
+      omega arith,
+      omega arith,
+      λ site given end smaller.
+          step_is (λ k. candidate site (best_in kinds nums dens) a.i k a.j) a.i k (omega arith)
+          (l.loop-k.invariant.2 site given end smaller)
+          (c.candidate.ensures
+          ∙ ap (λ rows. candidate_over a.coordinates.now (take a.n a.keys.now) rows left.side_at-left.result
+          right.side_at-right.result) two.two_over-rows.ensures
+          ∙ ap₂ (candidate_over a.coordinates.now (take a.n a.keys.now) (two_over a.rim a.i k a.j))
+          left.side_at-left.ensures right.side_at-right.ensures
+          ∙ candidate_is given (omega arith) (omega arith) (omega arith) end kinds nums dens used smaller)
+          c.taken-found.ensures,
+    )
+
+pub returns : goal.returns
+returns c =
+    let l = c.loop-k in
+    let a = c.args in
+    let all : l.k - suc a.i ≡ a.j - a.i - 1 = omega arith in
+    λ site given end smaller.
+    l.invariant.2 site given end smaller
+    ∙ ap (leading (λ k. candidate site (best_in a.kinds.now a.nums.now a.dens.now) a.i k a.j) (suc a.i)) all

@@ -1,0 +1,17 @@
+-- `taken` keeps as `keep` does: the candidate if there is nothing yet or it is better.
+use mathlib.Core.Path.{sym, ◌∙◌}
+use borrow.Author.Rules.{rules}
+use Rattle.choice.proofs.taken.Goals as goal
+
+pub returns-in_default-found : goal.returns-in_default-found
+returns-in_default-found c = rw (c.in_default-found.is, c.in-Worst.is)
+
+pub returns-then-worse : goal.returns-then-worse
+returns-then-worse c =
+    let found = c in
+    rw (found.in-Apex.is, found.in-Worst.is, sym c.worse.ensures ∙ c.if-worse.true)
+
+pub returns : goal.returns
+returns c =
+    let found = c in
+    rw (found.in-Apex.is, found.in-Worst.is, sym c.worse.ensures ∙ c.if-worse.false)

@@ -1,0 +1,20 @@
+use Prim.Native.Nat.{◌≤◌, ◌-◌}
+use mathlib.Core.List.{[], ◌∷◌, map}
+use mathlib.Core.Path.{◌≡◌, refl, ap, ◌∙◌}
+use native.Mathlib.Omega.{arith}
+use lib.ListN.{length, take}
+use Rattle.lists.specs.Lists.{has, numbers_from}
+use Rattle.rows.specs.Rows.{row_in, with_rows}
+use Rattle.rows.proofs.PastedRows.{with_none, with_length}
+use Rattle.keys.specs.Steps.{face_key}
+use Rattle.marking.specs.Marking.{dress_by}
+use Rattle.dressing.proofs.RowsDressed.{up_to, dressed_more}
+use Rattle.dressing.proofs.dress_all.Given as goal
+
+abbrev pub invariant-loop-i : goal.invariant-loop-i
+invariant-loop-i l =
+    (l.from ≤ l.i) × (l.i ≤ l.end) × (length l.rows ≡ length l.initial.rows)
+    × (l.rows ≡ with_rows l.initial.rows l.from (up_to l.initial.rows l.from (dress_by (λ f. has (take l.n l.keys) (face_key f))) l.i))
+
+abbrev pub decreases-loop-i : goal.decreases-loop-i
+decreases-loop-i l = l.end - l.i

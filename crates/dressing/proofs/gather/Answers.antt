@@ -1,0 +1,70 @@
+-- The invariant of `gather`: the keys of the first i rows are stored.
+use Prim.Native.Nat.{◌≤◌, ◌-◌, ◌*◌}
+use mathlib.Core.Bool.{Bool, not}
+use mathlib.Core.List.{List, [], ◌∷◌, map, flat_map, Memᴰ}
+use mathlib.Core.Path.{◌≡◌, refl, sym, ap, ◌∙◌}
+use native.Mathlib.Numerals.{add-one}
+use native.Mathlib.Omega.{arith}
+use borrow.Author.Rules.{rules}
+use lib.ListN.{length, take}
+use Rattle.lists.specs.Lists.{those, numbers_from}
+use Rattle.lists.proofs.Images.{flat_map_snoc}
+use Rattle.rows.specs.declared.Row.{Row}
+use Rattle.rows.specs.Labels.{no_marks}
+use Rattle.rows.specs.Rows.{row_in, rows_in, holds_face}
+use Rattle.rows.proofs.RowsOfTables.{among_rows, rows_more}
+use Rattle.keys.specs.Steps.{row_faces, most_keys}
+use Rattle.marking.specs.Marking.{marked_faces}
+use Rattle.marking.specs.Steps.{marked_keys, keys_marked}
+use Rattle.dressing.proofs.gather.Goals as goal
+
+-- where no row is marked there is no key
+no_keys : (over : Row → Bool) (rows : List Row) → ((row : Row) → Memᴰ row rows → row.marks ≡ no_marks) → keys_marked over rows ≡ []
+unfolding flat_map marked_keys marked_faces those
+no_keys over [] none = refl
+no_keys over (row ∷ rows) none = rw (none row (Memᴰ.head refl)) (no_keys over rows (λ r m. none r (Memᴰ.tail m)))
+
+pub returns-then-unmarked : goal.returns-then-unmarked
+returns-then-unmarked c =
+    let s = c in
+    let a = s.args in
+    let table = a.table.now in
+    let none = c.unmarked.ensures c.if-unmarked.true in (
+      search rules,
+      omega arith,
+      sym (no_keys (λ row. not (holds_face (a.x ∷ a.y ∷ a.z ∷ []) row)) (rows_in table a.n) λ row m.
+          let (i, h, e) = among_rows table a.n m in
+          rw e (none i)),
+    )
+
+pub loop-i-init : goal.loop-i-init
+unfolding flat_map rows_in numbers_from
+loop-i-init c = (omega arith, search rules, omega arith, refl)
+
+pub store_marked-count-requires : goal.store_marked-count-requires
+store_marked-count-requires c =
+    let l = c.loop-i in
+    (l.invariant.1, omega (arith, l.invariant.2))
+
+pub loop-i-preserved : goal.loop-i-preserved
+loop-i-preserved c =
+    let k = c in
+    let a = k.args in
+    let i = k.loop-i.i in
+    let table = a.table.now in
+    let over : Row → Bool = λ row. not (holds_face (a.x ∷ a.y ∷ a.z ∷ []) row) in (
+      omega arith,
+      c.store_marked-count.ensures.0,
+      omega (arith, c.store_marked-count.ensures.1, k.loop-i.invariant.2),
+      c.store_marked-count.ensures.2
+          ∙ rw (k.loop-i.invariant.3, c.holds_face.ensures, c.row_in-row.ensures)
+          (sym (flat_map_snoc (λ row. marked_keys (over row) row) (rows_in table i) (row_in table i))
+          ∙ ap (keys_marked over) (sym (rows_more table i) ∙ ap (rows_in table) (sym (add-one i)))),
+    )
+
+pub returns : goal.returns
+returns c =
+    let l = c.loop-i in
+    let a = c.args in
+    let e : l.i ≡ a.n = omega arith in
+    (l.invariant.1, omega (arith, l.invariant.2), rw e at l.invariant.3)

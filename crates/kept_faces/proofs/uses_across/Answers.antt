@@ -1,0 +1,18 @@
+-- `uses_across` looks up the face of a, then the face of b, if the links do not close.
+use borrow.Author.Rules.{rules}
+use Rattle.kept_faces.proofs.uses_across.Goals as goal
+
+pub returns-then-closed : goal.returns-then-closed
+returns-then-closed c = rw c.if-closed.true
+
+pub returns-then-among : goal.returns-then-among
+returns-then-among c =
+    let k = c in
+    rw (k.if-closed.false, ← k.face_key.ensures, ← c.among.ensures, c.if-among.true)
+
+pub returns : goal.returns
+returns c =
+    let e = c in
+    let k = e in
+    rw (k.if-closed.false, ← k.face_key.ensures, ← e.among.ensures, e.if-among.false, ← c.face_key-2.ensures)
+    c.among-2.ensures

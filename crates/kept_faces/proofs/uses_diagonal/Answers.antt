@@ -1,0 +1,12 @@
+-- `uses_diagonal` looks up the face of a, then the face of b.
+use mathlib.Core.Path.{sym, ◌∙◌}
+use borrow.Author.Rules.{rules}
+use Rattle.kept_faces.proofs.uses_diagonal.Goals as goal
+
+pub returns-then-uses_either : goal.returns-then-uses_either
+returns-then-uses_either c = rw (sym c.uses_either.ensures ∙ c.if-uses_either.true)
+
+pub returns : goal.returns
+returns c =
+    let e = c in
+    rw (sym e.uses_either.ensures ∙ e.if-uses_either.false) c.uses_either-2.ensures

@@ -1,0 +1,25 @@
+-- `put_answer` puts the word, the number and the end of the line.
+use mathlib.Core.Path.{refl}
+use Rattle.lines.specs.Lines.{text, line}
+use Rattle.text.proofs.BytesBehindAText.{then_put}
+use Rattle.lines.proofs.FieldsOfALine.{field_put, end_put}
+use Rattle.lines.proofs.put_answer.Goals as goal
+
+-- LEFT
+-- slice-aggregate-put-word : tie.Need-slice-aggregate-put-word
+-- slice-aggregate-put-word c = refl
+
+pub put_word-requires : goal.put_word-requires
+put_word-requires c = tt
+
+pub put_number-requires : goal.put_number-requires
+put_number-requires c = tt
+
+pub put_end-requires : goal.put_end-requires
+put_end-requires c = tt
+
+pub returns : goal.returns
+unfolding line text
+returns c =
+    then_put c.put_word.ensures
+    (field_put _ _ c.put_number.ensures (end_put c.put_end.ensures))

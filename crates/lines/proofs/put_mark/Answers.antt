@@ -1,0 +1,15 @@
+-- `put_mark` puts a space and the mark.
+use mathlib.Core.Path.{refl}
+use Rattle.lines.specs.Lines.{text, spaced, mark}
+use Rattle.lines.proofs.put_mark.Goals as goal
+
+-- LEFT
+-- slice-aggregate-put-word : tie.Need-slice-aggregate-put-word
+-- slice-aggregate-put-word c = refl
+
+pub put_word-requires : goal.put_word-requires
+put_word-requires c = tt
+
+pub returns : goal.returns
+unfolding spaced mark text
+returns c = c.put_word.ensures

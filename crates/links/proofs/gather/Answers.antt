@@ -1,0 +1,77 @@
+-- `gather` takes the rows in order, and adds the place, the link and the region of each that holds both ends.
+use Prim.Native.Nat.{◌≤◌, ◌-◌}
+use mathlib.Core.Path.{◌≡◌, refl, sym, ap, ◌∙◌}
+use mathlib.Core.Logic.{⊎_elim}
+use native.Mathlib.Omega.{arith}
+use borrow.Author.Rules.{rules}
+use lib.ListN.{length, length-map}
+use Rattle.lists.specs.Lists.{those, numbers_from}
+use Rattle.lists.proofs.Tests.{is_yes}
+use Rattle.rows.specs.Rows.{rows_in, holds_edge}
+use Rattle.rows.specs.Steps.{regions_of}
+use Rattle.rows.proofs.RegionsRowByRow.{none_met}
+use Rattle.links.specs.Steps.{links_in, places_in, places_of}
+use Rattle.links.specs.Links.{link, links_of}
+use Rattle.links.proofs.LinksRowByRow.{row_fits_lem, table_more, table_same, places_more, places_same, regions_more, regions_same}
+use Rattle.links.proofs.LinkArrays.{in_length}
+use Rattle.links.proofs.gather.Goals as goal
+
+pub loop-i-init : goal.loop-i-init
+unfolding links_in rows_in numbers_from those
+loop-i-init c = (omega arith, omega arith, refl, refl, sym none_met)
+
+pub overflow_cast-i : goal.overflow_cast-i
+overflow_cast-i c = omega (arith, c.requires.few)
+
+pub link_of-requires : goal.link_of-requires
+link_of-requires c =
+    let held = c in
+    let at = held in
+    let pre = at.requires in
+    let table = at.args.table.now in
+    record {
+      count = pre.count;
+      fits =
+          rw held.row_in-row.ensures
+          (row_fits_lem pre.count table at.args.n at.loop-i.i pre.rule (omega arith));
+      apart = λ e. omega (arith, pre.order);
+      held = is_yes _ (sym held.holds_edge.ensures ∙ c.if-holds_edge.true);
+    }
+
+pub loop-i-preserved : goal.loop-i-preserved
+loop-i-preserved c =
+    let at = c in
+    let args = at.args in
+    let row = c.row_in-row.ensures in
+    let held = c.holds_edge.ensures in
+    let many : at.loop-i.links.n ≡ length (those (holds_edge args.a args.b) (rows_in args.table.now at.loop-i.i)) =
+    sym (in_length at.loop-i.links) ∙ ap length at.loop-i.invariant.2
+    ∙ length-map (those (holds_edge args.a args.b) (rows_in args.table.now at.loop-i.i)) (link args.a args.b) in
+    ⊎_elim
+    (λ w. (
+      omega arith,
+      omega (arith, ap (λ links. links.n) w.4, w.3.ensures.0),
+      ap links_in w.4 ∙ w.3.ensures.1 ∙ table_more args.a args.b args.table.now at.loop-i.i
+          at.loop-i.invariant.2 row (sym held ∙ w.0.taken) w.2.ensures,
+      ap places_in w.4 ∙ w.3.ensures.2
+          ∙ places_more args.a args.b args.table.now at.loop-i.i at.loop-i.invariant.3 row (sym held ∙ w.0.taken),
+      w.5 ∙ w.1.ensures
+          ∙ regions_more args.a args.b args.table.now at.loop-i.i at.loop-i.links.n at.loop-i.invariant.4 row many
+          (sym held ∙ w.0.taken),
+    ))
+    (λ w. (
+      omega arith,
+      omega (arith, ap (λ links. links.n) w.1),
+      ap links_in w.1 ∙ table_same args.a args.b args.table.now at.loop-i.i at.loop-i.invariant.2 row (sym held ∙ w.0.left),
+      ap places_in w.1 ∙ places_same args.a args.b args.table.now at.loop-i.i at.loop-i.invariant.3 row (sym held ∙ w.0.left),
+      w.2
+          ∙ regions_same args.a args.b args.table.now at.loop-i.i at.loop-i.links.n at.loop-i.invariant.4 row
+          (sym held ∙ w.0.left),
+    ))
+    c.if-holds_edge.branch
+
+pub returns : goal.returns
+returns c =
+    let at = c in
+    let e : at.loop-i.i ≡ at.args.n = omega arith in
+    (omega (arith, at.requires.few), rw e at at.loop-i.invariant.2, rw e at at.loop-i.invariant.3, rw e at at.loop-i.invariant.4)

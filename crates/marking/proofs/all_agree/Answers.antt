@@ -1,0 +1,67 @@
+-- The invariant of `all_agree`: no row before i leaves a face unmarked that another row marks.
+use Prim.Native.Nat.{◌≤◌, ◌-◌}
+use mathlib.Core.Bool.{true, false}
+use mathlib.Core.Path.{◌≡◌, refl, sym, ◌∙◌}
+use native.Mathlib.Numerals.{add-one}
+use native.Mathlib.Omega.{arith}
+use borrow.Author.Rules.{rules}
+use borrow.Author.Tests.{not-true, not-false}
+use lib.ListN.{take}
+use Rattle.lists.specs.Lists.{every, numbers_from}
+use Rattle.lists.proofs.Lists.{every_no, every_snoc}
+use Rattle.rows.specs.Rows.{row_in, rows_in}
+use Rattle.rows.proofs.RowsOfTables.{among_rows, row_among, rows_more, rows_bytes}
+use Rattle.marking.proofs.AgreeByKeys.{row_test, agree_by_keys, unmarked_agree}
+use Rattle.marking.proofs.all_agree.Goals as goal
+
+pub returns-then-unmarked : goal.returns-then-unmarked
+returns-then-unmarked c =
+    let s = c in
+    let table = s.args.table.now in
+    let none = c.unmarked.ensures c.if-unmarked.true in
+    sym (unmarked_agree (rows_in table s.args.n) (λ row m. let (i, h, e) = among_rows table s.args.n m in rw e (none i)))
+
+pub loop-i-init : goal.loop-i-init
+unfolding every rows_in numbers_from
+loop-i-init c = (omega arith, refl)
+
+pub row_agrees-requires : goal.row_agrees-requires
+row_agrees-requires c =
+    let s = c.store_all-count.ensures in
+    (s.0, s.1)
+
+pub returns-then-not-row_agrees : goal.returns-then-not-row_agrees
+returns-then-not-row_agrees c =
+    let k = c in
+    let stored = k.store_all-count.ensures.2 in
+    let known = k in
+    let s = known in
+    let table = s.args.table.now in
+    let n = s.args.n in
+    let i = k.loop-i.i in
+    let told = rw c.row_in.ensures at c.row_agrees.ensures in
+    let test = row_test (take k.store_all-count.result k.store_all-count.new.0) in
+    let no : test (row_in table i) ≡ false = sym told ∙ c.if-not-row_agrees.true in
+    sym (agree_by_keys (rows_in table n) (rows_bytes table (λ j. omega (arith, known.type_inv.table j)) n)
+    ∙ rw (← stored) (every_no test (rows_in table n) (row_among table n i (omega arith)) no))
+
+pub loop-i-preserved : goal.loop-i-preserved
+loop-i-preserved c =
+    let k = c in
+    let s = k in
+    let table = s.args.table.now in
+    let i = k.loop-i.i in
+    let told = rw c.row_in.ensures at c.row_agrees.ensures in
+    let test = row_test (take k.store_all-count.result k.store_all-count.new.0) in
+    let yes : test (row_in table i) ≡ true = sym told ∙ c.if-not-row_agrees.false in
+    (omega arith, rw (add-one i, rows_more table i, every_snoc test (rows_in table i) (row_in table i), k.loop-i.invariant.1, yes))
+
+pub returns : goal.returns
+returns c =
+    let l = c.loop-i in
+    let stored = c.store_all-count.ensures.2 in
+    let known = c in
+    let s = known in
+    let table = s.args.table.now in
+    let e : l.i ≡ s.args.n = omega arith in
+    sym (agree_by_keys (rows_in table s.args.n) (rows_bytes table (λ j. omega (arith, known.type_inv.table j)) s.args.n) ∙ rw (← stored, ← e) l.invariant.1)

@@ -1,0 +1,6 @@
+-- `plain` marks no face.
+use borrow.Author.Rules.{rules}
+use Rattle.rows.proofs.plain.Goals as goal
+
+pub returns : goal.returns
+returns c = rw c.no_marks.ensures

@@ -1,0 +1,24 @@
+-- `Badness::of` is `badness`, kind by kind.
+use mathlib.Core.Path.{sym, ◌∙◌}
+use borrow.Author.Rules.{rules}
+use Rattle.score.specs.Score.{badness}
+use Rattle.score.proofs.Badness.of.Goals as goal
+
+pub returns-in-Upright : goal.returns-in-Upright
+unfolding badness
+returns-in-Upright c =
+    let t = c in
+    rw (
+      sym t.kind-kind.ensures ∙ t.in-Upright.is,
+      c.rounded_up.ensures,
+      c.den-den.ensures,
+      c.num-num.ensures,
+    )
+
+pub returns-in-Flat : goal.returns-in-Flat
+unfolding badness
+returns-in-Flat c = rw (sym c.kind-kind.ensures ∙ c.in-Flat.is)
+
+pub returns-in-Inverted : goal.returns-in-Inverted
+unfolding badness
+returns-in-Inverted c = rw (sym c.kind-kind.ensures ∙ c.in-Inverted.is)

@@ -1,0 +1,6 @@
+-- `score_met` is `score_met`, case by case.
+use borrow.Author.Rules.{rules}
+use Rattle.summary.proofs.score_met.Goals as goal
+
+pub returns-in-Worst : goal.returns-in-Worst
+returns-in-Worst c = rw (c.in-Worst.is, c.of.ensures)

@@ -1,0 +1,16 @@
+-- `row_volume` is `row_d`: each number of the row is read as its point.
+use mathlib.Core.Path.{◌∙◌}
+use Rattle.volume.proofs.VolumeComputed.{read}
+use Rattle.tally.proofs.MeasuredRows.{row_D_from}
+use borrow.Author.Rules.{rules}
+use Rattle.tally.proofs.row_volume.Goals as goal
+
+pub returns : goal.returns
+returns c =
+    let s = c in
+    let r = s in
+    let q = r in
+    let p = q in
+    let start = p in
+    read c.volume.type_inv c.volume.ensures.0
+    ∙ row_D_from start.requires p.point_in-p.ensures q.point_in-q.ensures r.point_in-r.ensures s.point_in-s.ensures

@@ -1,0 +1,54 @@
+-- The invariant of `worst_round`: what was met is the worst of those of the first i rows that hold both ends.
+use Prim.Native.Nat.{◌≤◌, ◌-◌}
+use mathlib.Core.List.{map}
+use mathlib.Core.Logic.{⊎_elim}
+use mathlib.Core.Path.{◌≡◌, refl, sym, ap, ◌∙◌}
+use native.Mathlib.Numerals.{add-one}
+use native.Mathlib.Omega.{arith}
+use borrow.Author.Rules.{rules}
+use Rattle.lists.specs.Lists.{numbers_from, those}
+use Rattle.volume.specs.Volume.{points_in}
+use Rattle.quality.specs.Quality.{worst}
+use Rattle.rows.specs.Rows.{row_in, rows_in, holds_edge}
+use Rattle.rows.specs.RowMeasure.{row_quality}
+use Rattle.tally.specs.Steps.{or_zero}
+use Rattle.tally.proofs.MeasuredRows.{measured_row}
+use Rattle.tally.proofs.WorstRowByRow.{met, or_zero_of, passing_met, other_met}
+use Rattle.tally.proofs.worst_round.Goals as goal
+
+pub loop-k-init : goal.loop-k-init
+unfolding rows_in numbers_from those worst
+loop-k-init c = (omega arith, refl)
+
+pub row_quality-requires : goal.row_quality-requires
+row_quality-requires c =
+    let l = c in
+    rw c.row_in-row.ensures (measured_row l.requires l.loop-k.k (omega arith))
+
+pub loop-k-preserved : goal.loop-k-preserved
+loop-k-preserved c =
+    let k = c in
+    let l = k in
+    let a = l.args in
+    let i = l.loop-k.k in
+    let table = a.table.now in
+    let f = row_quality (points_in a.coordinates.now a.count) in
+    let p = holds_edge a.a a.b in
+    let is = k.row_in-row.ensures in
+    let test : p (row_in table i) ≡ k.holds_edge.result = ap p (sym is) ∙ sym k.holds_edge.ensures in (
+      omega arith,
+      ⊎_elim
+          (λ w. w.3 ∙ w.2.ensures ∙ rw (l.loop-k.invariant.1, w.1.ensures, is, add-one) (passing_met f table i p (test ∙ w.0.taken)))
+          (λ w. w.1 ∙ l.loop-k.invariant.1 ∙ rw add-one (other_met f table i p (test ∙ w.0.left)))
+          c.if-holds_edge.branch,
+    )
+
+pub returns : goal.returns
+returns c =
+    let l = c in
+    let a = l.args in
+    let e : l.loop-k.k ≡ a.n = omega arith in
+    c.or_zero.ensures
+    ∙ ap or_zero (rw e at l.loop-k.invariant.1)
+    ∙ or_zero_of (worst (map (row_quality (points_in a.coordinates.now a.count))
+    (those (holds_edge a.a a.b) (rows_in a.table.now a.n))))
