@@ -164,7 +164,8 @@ class Turner:
         def turn(t):
             return first.get(t[0], t[0])
 
-        body = re.sub(r"(?<![.\w'-])" + IDENT, turn, body)
+        # (a record's field keeps its name)
+        body = re.sub(r"(?<![.\w'-])" + IDENT + r"(?! [:=] )", turn, body)
         out = f"abbrev pub {kind}-{new} : goal.{kind}-{new}\n" + (opened + "\n" if opened else "") + f"{kind}-{new} l ={body}"
         return (comment + "\n" if comment else "") + out
 
@@ -234,7 +235,7 @@ def turn(names, crate, function, path, data, said):
         elif re.match(r"(abbrev )?(pub )?(invariant|decreases)-", head):
             it = t.invariant(b)
             invariants.append(it if it is not None else "-- LEFT\n" + re.sub("(?m)^", "-- ", b))
-        elif re.search(r"statement M\b", head) or re.match(r"(abbrev )?(μ-|\w+-(at|below) :)", head):
+        elif re.search(r"statement M\b", head) or os.path.basename(os.path.dirname(path)).startswith("+") and re.match(r"(abbrev )?(μ-|\w+-(at|below) :)", head):
             if "statement M" not in head:
                 t.say("measure of a cycle by hand: " + head[:120])
         else:

@@ -20,8 +20,8 @@ loop-i-preserved c =
     let k = c in
     let l = k.loop-i in
     let s = k.args.body.now in
-    let p = c.wrapping_add_u16-sum.ensures in
-    let q = c.wrapping_add_u16-second.ensures in
+    let p = c.wrapping_add_u16-sum.ensures.value in
+    let q = c.wrapping_add_u16-second.ensures.value in
     (omega arith, refl, omega arith, omega arith, sym (step s l.i (omega arith) l.first l.second _ _ p q) ∙ l.invariant.4)
 
 pub returns : goal.returns

@@ -40,7 +40,7 @@ returns-then-not-row_agrees c =
     let n = s.args.n in
     let i = k.loop-i.i in
     let told = rw c.row_in.ensures at c.row_agrees.ensures in
-    let test = row_test (take k.store_all-count.result k.store_all-count.new.0) in
+    let test = row_test (take k.store_all-count.result k.store_all-count.new.keys) in
     let no : test (row_in table i) ≡ false = sym told ∙ c.if-not-row_agrees.true in
     sym (agree_by_keys (rows_in table n) (rows_bytes table (λ j. omega (arith, known.type_inv.table j)) n)
     ∙ rw (← stored) (every_no test (rows_in table n) (row_among table n i (omega arith)) no))
@@ -52,7 +52,7 @@ loop-i-preserved c =
     let table = s.args.table.now in
     let i = k.loop-i.i in
     let told = rw c.row_in.ensures at c.row_agrees.ensures in
-    let test = row_test (take k.store_all-count.result k.store_all-count.new.0) in
+    let test = row_test (take k.store_all-count.result k.store_all-count.new.keys) in
     let yes : test (row_in table i) ≡ true = sym told ∙ c.if-not-row_agrees.false in
     (omega arith, rw (add-one i, rows_more table i, every_snoc test (rows_in table i) (row_in table i), k.loop-i.invariant.1, yes))
 

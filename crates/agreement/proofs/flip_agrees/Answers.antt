@@ -1,0 +1,51 @@
+-- The answer, then every byte.
+use mathlib.Core.Path.{ap, ◌∙◌}
+use native.Mathlib.Omega.{arith}
+use borrow.Author.Rules.{rules}
+use lib.ListN.{length, length-take}
+use Rattle.answers.specs.Answers.{answer_of}
+use Rattle.calls.specs.Flipping.{flip_answer, flip_bytes}
+use Rattle.records.specs.Records.{numbers_in}
+use Rattle.expected.specs.Expected.{output_is}
+use Rattle.agreement.specs.Agreement.{flip_agrees}
+use Rattle.agreement.proofs.AnswersHeld.{other_answer, same_answer, at_numbers}
+use Rattle.agreement.proofs.flip_agrees.Goals as goal
+
+pub slice_bounds-flip-end : goal.slice_bounds-flip-end
+slice_bounds-flip-end c =
+    simp length-take (omega (arith, ap length c.numbers-given.ensures, c.count-n.ensures))
+
+pub returns-then-not-answer_is : goal.returns-then-not-answer_is
+unfolding flip_agrees
+returns-then-not-answer_is c =
+    let k = c in
+    let out = k in
+    let a = out.args in
+    let s = a.stored.now in
+    let numbers = out.numbers-given.ensures in
+    let count = out.count-n.ensures in
+    other_answer
+    (flip_answer a.input.now a.out.now (numbers_in s))
+    _
+    k.answer_is.ensures
+    (at_numbers s (λ l. answer_of (flip_answer a.input.now a.out.now l)) out.flip-answer.ensures.0 count numbers)
+    _
+    c.if-not-answer_is.true-raw
+
+pub returns : goal.returns
+unfolding flip_agrees
+returns c =
+    let k = c in
+    let out = k in
+    let a = out.args in
+    let s = a.stored.now in
+    let numbers = out.numbers-given.ensures in
+    let count = out.count-n.ensures in
+    let bytes = at_numbers s (flip_bytes a.input.now a.out.now) out.flip-answer.ensures.1 count numbers in
+    same_answer
+    (flip_answer a.input.now a.out.now (numbers_in s))
+    _
+    k.answer_is.ensures
+    (at_numbers s (λ l. answer_of (flip_answer a.input.now a.out.now l)) out.flip-answer.ensures.0 count numbers)
+    c.if-not-answer_is.false-raw
+    (c.output_is.ensures ∙ ap (λ l. output_is l s) bytes)

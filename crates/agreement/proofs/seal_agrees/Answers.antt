@@ -1,0 +1,36 @@
+-- The answer, then every byte.
+use mathlib.Core.Path.{ap, ◌∙◌}
+use Rattle.block.specs.Opening.{seal_answer}
+use Rattle.expected.specs.Expected.{output_is}
+use Rattle.agreement.specs.Agreement.{seal_agrees}
+use Rattle.agreement.proofs.AnswersHeld.{other_answer, same_answer}
+use borrow.Author.Rules.{rules}
+use Rattle.agreement.proofs.seal_agrees.Goals as goal
+
+pub returns-then-not-answer_is : goal.returns-then-not-answer_is
+unfolding seal_agrees
+returns-then-not-answer_is c =
+    let a = c.args in
+    let k = c in
+    let out = k in
+    other_answer
+    (seal_answer a.input.now a.out.now)
+    _
+    k.answer_is.ensures
+    out.seal-answer.ensures.0
+    _
+    c.if-not-answer_is.true-raw
+
+pub returns : goal.returns
+unfolding seal_agrees
+returns c =
+    let a = c.args in
+    let k = c in
+    let out = k in
+    same_answer
+    (seal_answer a.input.now a.out.now)
+    _
+    k.answer_is.ensures
+    out.seal-answer.ensures.0
+    c.if-not-answer_is.false-raw
+    (c.output_is.ensures ∙ ap (λ bytes. output_is bytes a.stored.now) out.seal-answer.ensures.1)

@@ -1,0 +1,6 @@
+-- The summary is the definition's.
+use borrow.Author.Rules.{rules}
+use Rattle.agreement.proofs.summary_agrees.Goals as goal
+
+pub returns : goal.returns
+returns c = rw c.summary.ensures at c.summarised_is.ensures

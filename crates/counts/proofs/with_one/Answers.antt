@@ -1,0 +1,6 @@
+-- One cell is set, to one more.
+use Rattle.std.proofs.Common.{set, ap, rules}
+use Rattle.counts.proofs.with_one.Goals as goal
+
+pub returns : goal.returns
+returns c = ap (set c.args.cells c.args.at) c.wrapping_add_u64.ensures

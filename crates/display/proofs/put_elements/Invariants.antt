@@ -1,0 +1,18 @@
+use Prim.Native.Nat.{◌≤◌, ◌-◌}
+use mathlib.Core.Path.{◌≡◌, refl, sym, ap, ◌∙◌}
+use native.Mathlib.Omega.{arith}
+use lib.ListN.{length, get_or, set, length-set}
+use Rattle.rows.proofs.RowsOfTables.{rows_length}
+use Rattle.page.specs.Page.{plus_zero}
+use Rattle.layout.specs.Layout.{max_rows}
+use Rattle.tally.specs.Tally.{patch_in}
+use Rattle.display.specs.Display.{shown_of}
+use Rattle.display.proofs.ElementsInOrder.{up_to, one_more, all_written}
+use Rattle.display.proofs.put_elements.Given as goal
+
+abbrev pub invariant-loop-i : goal.invariant-loop-i
+invariant-loop-i l =
+    (l.i ≤ max_rows) × (l.out ≡ up_to (patch_in l.coordinates l.count l.table l.n) l.initial.out l.i) × (length l.out ≡ max_rows)
+
+abbrev pub decreases-loop-i : goal.decreases-loop-i
+decreases-loop-i l = max_rows - l.i

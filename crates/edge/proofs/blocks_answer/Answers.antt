@@ -1,0 +1,25 @@
+-- Both lengths are tested first; what is left is the answer of opening.
+use mathlib.Core.Path.{sym, ap, ◌∙◌}
+use borrow.Author.Rules.{rules}
+use Rattle.answers.specs.Answers.{answer_of}
+use Rattle.calls.proofs.CallTests.{out_opened}
+use Rattle.edge.proofs.EdgeAnswers.{block_1, out_1}
+use Rattle.edge.proofs.blocks_answer.Goals as goal
+
+pub returns-then-block-ne-BLOCK_BYTES : goal.returns-then-block-ne-BLOCK_BYTES
+returns-then-block-ne-BLOCK_BYTES c =
+    let a = c.args in
+    ap answer_of (sym (block_1 a.block.now a.out.now c.if-block-ne-BLOCK_BYTES.true))
+
+pub returns-then-out-ne-BLOCK_BYTES : goal.returns-then-out-ne-BLOCK_BYTES
+returns-then-out-ne-BLOCK_BYTES c =
+    let e1 = c in
+    let a = e1.args in
+    ap answer_of (sym (out_1 a.block.now a.out.now e1.if-block-ne-BLOCK_BYTES.false c.if-out-ne-BLOCK_BYTES.true))
+
+pub returns : goal.returns
+returns c =
+    let e2 = c in
+    let e1 = e2 in
+    let a = e1.args in
+    c.opening.ensures ∙ ap answer_of (sym (out_opened a.block.now a.out.now e2.if-out-ne-BLOCK_BYTES.false))

@@ -1,0 +1,16 @@
+use Prim.Native.Nat.{◌-◌, ◌≤◌}
+use mathlib.Core.Path.{◌≡◌, refl, sym, ◌∙◌}
+use native.Mathlib.Numerals.{add-one}
+use native.Mathlib.Omega.{arith}
+use lib.Dec.{eqb}
+use lib.ListN.{length, drop, drop_of_length-le}
+use Rattle.lists.specs.Lists.{same}
+use Rattle.expected.proofs.SameBytes.{other_length, differs_here, agrees_here}
+use Rattle.expected.proofs.same.Given as goal
+
+abbrev pub invariant-loop-i : goal.invariant-loop-i
+invariant-loop-i l =
+    (l.i ≤ length l.x) × (l.i-end ≡ length l.x) × (length l.x ≡ length l.y) × (same eqb (drop l.i l.x) (drop l.i l.y) ≡ same eqb l.x l.y)
+
+abbrev pub decreases-loop-i : goal.decreases-loop-i
+decreases-loop-i l = l.i-end - l.i

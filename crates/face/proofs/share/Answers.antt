@@ -1,0 +1,54 @@
+-- The invariant of `share`: what is kept is what the first i rows give.
+use Prim.Native.Nat.{◌≤◌, ◌-◌}
+use mathlib.Core.List.{[], ◌∷◌}
+use mathlib.Core.Logic.{⊎_elim}
+use mathlib.Core.Path.{◌≡◌, ◌∙◌}
+use native.Mathlib.Omega.{arith}
+use borrow.Author.Rules.{rules}
+use Rattle.lists.specs.Lists.{any, those, first, numbers_from}
+use Rattle.rows.specs.Rows.{rows_in}
+use Rattle.rows.specs.Regions.{region_of, mixed}
+use Rattle.rows.specs.Steps.{regions_of}
+use Rattle.rows.proofs.RowsOfTables.{rows_length}
+use Rattle.walk.specs.Walk.{smallest}
+use Rattle.calls.specs.Flipping.{pair_of}
+use Rattle.face.specs.Steps.{sharing_in}
+use Rattle.face.proofs.FaceShared.{share_few, held_next, other_next}
+use Rattle.face.proofs.share.Goals as goal
+
+pub loop-i-init : goal.loop-i-init
+unfolding pair_of rows_in numbers_from those smallest first any regions_of region_of mixed
+loop-i-init c = (omega arith, rw c.plain.ensures)
+
+pub with_row-found-requires : goal.with_row-found-requires
+with_row-found-requires c =
+    let at = c in
+    let args = at.args in
+    let rows = rows_in args.table.now at.loop-i.i in
+    rw at.loop-i.invariant.1 (omega (arith, share_few (args.x ∷ args.y ∷ args.z ∷ []) rows, rows_length args.table.now at.loop-i.i))
+
+pub loop-i-preserved : goal.loop-i-preserved
+loop-i-preserved c =
+    let at = c in
+    let args = at.args in
+    let face = args.x ∷ args.y ∷ args.z ∷ [] in
+    let row = c.row_in-row.ensures in
+    let held = c.holds_face.ensures in
+    ⊎_elim
+    (λ w. (
+      omega arith,
+      held_next face args.table.now at.loop-i.i at.loop-i.found at.loop-i.invariant.1 _ row _ held w.0.taken _
+          c.if-holds_face.found w.1.ensures (w.3 ∙ w.2.ensures),
+    ))
+    (λ w. (
+      omega arith,
+      other_next face args.table.now at.loop-i.i at.loop-i.found at.loop-i.invariant.1 _ row _ held
+          w.0.left c.if-holds_face.found w.1,
+    ))
+    c.if-holds_face.branch
+
+pub returns : goal.returns
+returns c =
+    let at = c in
+    let e : at.loop-i.i ≡ at.args.n = omega arith in
+    rw e at at.loop-i.invariant.1

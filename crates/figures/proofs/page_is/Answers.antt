@@ -1,0 +1,22 @@
+-- The two sizes, one after the other.
+use mathlib.Core.Path.{ap, ◌∙◌}
+use Rattle.figures.specs.Figures.{has_bits, page_is}
+use Rattle.expected.proofs.TestsInTurn.{fails, passes, failed, passed}
+use borrow.Author.Rules.{rules}
+use Rattle.figures.proofs.page_is.Goals as goal
+
+pub returns-then-not-has_bits : goal.returns-then-not-has_bits
+unfolding page_is
+returns-then-not-has_bits c =
+    let a = c.args in
+    let k = c in
+    fails _ (failed (k.has_bits.ensures ∙ ap (has_bits a.page.before) k.figure.ensures) c.if-not-has_bits.true-raw)
+
+pub returns : goal.returns
+unfolding page_is
+returns c =
+    let a = c.args in
+    let k = c in
+    c.has_bits-2.ensures
+    ∙ ap (has_bits a.page.after) c.figure-2.ensures
+    ∙ passes (passed (k.has_bits.ensures ∙ ap (has_bits a.page.before) k.figure.ensures) c.if-not-has_bits.false-raw)

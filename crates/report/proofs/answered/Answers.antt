@@ -1,0 +1,19 @@
+-- `answered` puts the line behind no text, and a byte has at most three digits.
+use native.Mathlib.Omega.{arith}
+use Rattle.text.proofs.BytesBehindAText.{put_first, whole}
+use Rattle.lines.specs.Lines.{answer_line}
+use Rattle.lines.proofs.LineLengths.{answer_size}
+use Rattle.report.proofs.answered.Goals as goal
+
+pub no_text-requires : goal.no_text-requires
+no_text-requires c = tt
+
+pub put_answer-requires : goal.put_answer-requires
+put_answer-requires c = tt
+
+pub returns : goal.returns
+returns c =
+    let start = c in
+    let answer = start.args.answer in
+    whole (answer_line answer) (put_first c.no_text.ensures c.put_answer.ensures)
+    (omega (arith, answer_size answer (omega (arith, start.ranges.answer.fits))))

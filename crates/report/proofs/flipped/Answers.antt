@@ -1,0 +1,15 @@
+-- `flipped` puts the new rows behind the first lines.
+use Rattle.text.proofs.BytesBehindAText.{whole}
+use Rattle.report.specs.Steps.{flip_lines}
+use Rattle.report.proofs.ShortReports.{flip_short}
+use borrow.Author.Rules.{rules}
+use Rattle.report.proofs.flipped.Goals as goal
+
+pub returns : goal.returns
+returns c =
+    let first = c in
+    let known = first in
+    let start = known in
+    let a = start.args in
+    whole (flip_lines a.block.now a.n a.output.now) (c.put_last_rows.ensures.put _ first.first_lines.ensures)
+    (flip_short a.block.now a.output.now known.type_inv.output a.n start.requires.0 start.requires.1)

@@ -1,0 +1,14 @@
+-- `sumpnewt_open` hands on the number of opening.
+use borrow.Author.Rules.{rules}
+use mathlib.Core.Path.{◌∙◌, ap}
+use Rattle.block.specs.declared.Opened.{Opened}
+use Rattle.answers.specs.Answers.{number_of}
+use Rattle.accepted.proofs.CallsNumbered.{open_number}
+use Rattle.sumpnewt.proofs.sumpnewt_open.Goals as goal
+
+pub returns : goal.returns
+returns c =
+    let opened = c in
+    c.number.ensures
+    ∙ ap (λ (gives : Opened). number_of gives.answer) opened.open-opened.ensures
+    ∙ open_number opened.args.block.now

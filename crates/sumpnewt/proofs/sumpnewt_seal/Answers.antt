@@ -1,0 +1,9 @@
+-- `sumpnewt_seal` hands on the number and the bytes of the call behind it.
+use borrow.Author.Rules.{rules}
+use Rattle.sumpnewt.proofs.HandedToC.{handed}
+use Rattle.sumpnewt.proofs.sumpnewt_seal.Goals as goal
+
+pub returns : goal.returns
+returns c =
+    let call = c in
+    (handed _ _ _ c.number.ensures call.seal-answer.ensures.0, call.seal-answer.ensures.1)
