@@ -26,21 +26,21 @@ two_over-rows-requires c = (omega arith, omega arith, omega arith, omega arith)
 pub side_at-left-requires : goal.side_at-left-requires
 side_at-left-requires c =
     let s = c in
-    (s.requires.1.0, (omega arith, omega arith, omega arith))
+    (s.requires.arrays.0, (omega arith, omega arith, omega arith))
 
 pub side_at-right-requires : goal.side_at-right-requires
 side_at-right-requires c =
     let s = c in
-    (s.requires.1.0, (omega arith, omega arith, omega arith))
+    (s.requires.arrays.0, (omega arith, omega arith, omega arith))
 
 pub candidate-requires : goal.candidate-requires
 candidate-requires c =
     let two = c in
     let l = two in
     let s = l in
-    let rim = s.requires.0.0 in (
-      s.requires.0.1,
-      s.requires.0.2,
+    let rim = s.requires.rimmed.0 in (
+      s.requires.rimmed.1,
+      s.requires.rimmed.2,
       rw two.two_over-rows.ensures (record {
         a = rim.a;
         x = rim.v (s.args.i - 1) (omega arith);

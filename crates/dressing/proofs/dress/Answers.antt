@@ -22,7 +22,7 @@ returns c =
     let rows = a.rows.now in
     all.dress_all.ensures
     ∙ ap (with_rows rows a.from)
-    (all_dressed_alike (holds_face (a.x ∷ a.y ∷ a.z ∷ [])) (rows_in table a.n) start.requires.0.2
+    (all_dressed_alike (holds_face (a.x ∷ a.y ∷ a.z ∷ [])) (rows_in table a.n) start.requires.n_in_bounds.2
     (rows_bytes table (λ j. omega (arith, known.type_inv.table j)) a.n) _ gathered.gather-count.ensures.2 _
     (λ row m. let (i, k, e) = Memᴰ.of_map (row_in rows) (numbers_from a.from (a.end - a.from)) m in
-    subst Bytes e (row_bytes_lem rows (λ j. omega (arith, known.type_inv.rows j)) i)))
+    subst Bytes e (row_bytes_lem rows (λ j. omega (arith, known.slice_known-1.given j)) i)))

@@ -36,7 +36,7 @@ pub put_row-requires-3 : goal.put_row-requires-3
 put_row-requires-3 c =
     let second = c in
     let first = second in
-    omega (arith, second.rows-2-1.given, first.rows-1.given, first.requires.0)
+    omega (arith, second.rows-2-1.given, first.rows-1.given, first.requires.at_in_bounds)
 
 pub returns : goal.returns
 returns c =
@@ -46,6 +46,6 @@ returns c =
     let linked = first in
     let start = linked in
     all_three start.args.rows.now _ _ _ start.args.at start.args.found start.args.region start.args.u linked.link_of-after.result.v
-    linked.link_of-after.result.w _ start.requires.0 linked.link_of-after.ensures
+    linked.link_of-after.result.w _ start.requires.at_in_bounds linked.link_of-after.ensures
     (rw first.plain.ensures at first.put_row.ensures) (rw second.plain-2.ensures at second.put_row-2.ensures)
     (rw third.plain-3.ensures at third.put_row-3.ensures)

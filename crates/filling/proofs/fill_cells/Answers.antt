@@ -43,7 +43,7 @@ inside : (t : Turn) → t.loop-at.j ≤ t.args.m
 inside t =
     let l = t.loop-at in
     let k = t.cell_at-last.ensures in
-    cell_inside _ _ _ l.inv.0 l.inv.1 t.requires.1.1.0
+    cell_inside _ _ _ l.inv.0 l.inv.1 t.requires.kinds_len.1.0
     (omega (arith, l.inv.2, k.0, t.loop-at-test.true))
 
 pub cell_at-last-requires : goal.cell_at-last-requires
@@ -68,7 +68,7 @@ choose-choice-requires c =
     let t = c in
     let l = t.loop-at.invariant in
     let s = t in
-    (s.requires.0, (l.3.arrays, l.0, l.1, omega (arith, inside t, s.requires.1.1.1)))
+    (s.requires.rimmed, (l.3.arrays, l.0, l.1, omega (arith, inside t, s.requires.kinds_len.1.1)))
 
 pub store-requires : goal.store-requires
 store-requires c =
@@ -89,7 +89,7 @@ bounds-rim-j c =
 pub uses_diagonal-requires : goal.uses_diagonal-requires
 uses_diagonal-requires c =
     let s = c in
-    (s.requires.0.1, s.requires.0.2)
+    (s.requires.rimmed.1, s.requires.rimmed.2)
 
 pub overflow_add-j : goal.overflow_add-j
 overflow_add-j c =

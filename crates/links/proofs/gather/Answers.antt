@@ -1,7 +1,6 @@
 -- `gather` takes the rows in order, and adds the place, the link and the region of each that holds both ends.
 use Prim.Native.Nat.{◌≤◌, ◌-◌}
 use mathlib.Core.Path.{◌≡◌, refl, sym, ap, ◌∙◌}
-use mathlib.Core.Logic.{⊎_elim}
 use native.Mathlib.Omega.{arith}
 use borrow.Author.Rules.{rules}
 use lib.ListN.{length, length-map}
@@ -14,6 +13,7 @@ use Rattle.links.specs.Steps.{links_in, places_in, places_of}
 use Rattle.links.specs.Links.{link, links_of}
 use Rattle.links.proofs.LinksRowByRow.{row_fits_lem, table_more, table_same, places_more, places_same, regions_more, regions_same}
 use Rattle.links.proofs.LinkArrays.{in_length}
+use Rattle.links.proofs.gather.Goals.{then-holds_edge, else-holds_edge}
 use Rattle.links.proofs.gather.Goals as goal
 
 pub loop-i-init : goal.loop-i-init
@@ -47,28 +47,28 @@ loop-i-preserved c =
     let many : at.loop-i.links.n ≡ length (those (holds_edge args.a args.b) (rows_in args.table.now at.loop-i.i)) =
     sym (in_length at.loop-i.links) ∙ ap length at.loop-i.invariant.2
     ∙ length-map (those (holds_edge args.a args.b) (rows_in args.table.now at.loop-i.i)) (link args.a args.b) in
-    ⊎_elim
-    (λ w. (
-      omega arith,
-      omega (arith, ap (λ links. links.n) w.4, w.3.ensures.0),
-      ap links_in w.4 ∙ w.3.ensures.1 ∙ table_more args.a args.b args.table.now at.loop-i.i
-          at.loop-i.invariant.2 row (sym held ∙ w.0.taken) w.2.ensures,
-      ap places_in w.4 ∙ w.3.ensures.2
-          ∙ places_more args.a args.b args.table.now at.loop-i.i at.loop-i.invariant.3 row (sym held ∙ w.0.taken),
-      w.5 ∙ w.1.ensures
-          ∙ regions_more args.a args.b args.table.now at.loop-i.i at.loop-i.links.n at.loop-i.invariant.4 row many
-          (sym held ∙ w.0.taken),
-    ))
-    (λ w. (
-      omega arith,
-      omega (arith, ap (λ links. links.n) w.1),
-      ap links_in w.1 ∙ table_same args.a args.b args.table.now at.loop-i.i at.loop-i.invariant.2 row (sym held ∙ w.0.left),
-      ap places_in w.1 ∙ places_same args.a args.b args.table.now at.loop-i.i at.loop-i.invariant.3 row (sym held ∙ w.0.left),
-      w.2
-          ∙ regions_same args.a args.b args.table.now at.loop-i.i at.loop-i.links.n at.loop-i.invariant.4 row
-          (sym held ∙ w.0.left),
-    ))
-    c.if-holds_edge.branch
+    elim c.if-holds_edge.branch [
+      | then-holds_edge w ↦ (
+        omega arith,
+        omega (arith, ap (λ links. links.n) w.links-is, w.added-links.ensures.0),
+        ap links_in w.links-is ∙ w.added-links.ensures.1 ∙ table_more args.a args.b args.table.now at.loop-i.i
+            at.loop-i.invariant.2 row (sym held ∙ w.if-holds_edge.true) w.link_of.ensures,
+        ap places_in w.links-is ∙ w.added-links.ensures.2
+            ∙ places_more args.a args.b args.table.now at.loop-i.i at.loop-i.invariant.3 row (sym held ∙ w.if-holds_edge.true),
+        w.regions-is ∙ w.joined-regions.ensures
+            ∙ regions_more args.a args.b args.table.now at.loop-i.i at.loop-i.links.n at.loop-i.invariant.4 row many
+            (sym held ∙ w.if-holds_edge.true),
+      )
+      | else-holds_edge w ↦ (
+        omega arith,
+        omega (arith, ap (λ links. links.n) w.links-is),
+        ap links_in w.links-is ∙ table_same args.a args.b args.table.now at.loop-i.i at.loop-i.invariant.2 row (sym held ∙ w.if-holds_edge.false),
+        ap places_in w.links-is ∙ places_same args.a args.b args.table.now at.loop-i.i at.loop-i.invariant.3 row (sym held ∙ w.if-holds_edge.false),
+        w.regions-is
+            ∙ regions_same args.a args.b args.table.now at.loop-i.i at.loop-i.links.n at.loop-i.invariant.4 row
+            (sym held ∙ w.if-holds_edge.false),
+      )
+    ]
 
 pub returns : goal.returns
 returns c =

@@ -9,7 +9,7 @@ use Rattle.outcome.proofs.RowsAfterwards.{carriable, measured, replaced}
 use Rattle.outcome.proofs.replace.Goals as goal
 
 size : (k : goal.After-slice_known-1) → length k.args.block.now ≡ block_bytes
-size k = let start = k in block_size start.args.block.now start.requires.0.0
+size k = let start = k in block_size start.args.block.now start.requires.block_value.0
 
 pub bounds-block-1 : goal.bounds-block-1
 bounds-block-1 c = omega (arith, size c)
@@ -26,9 +26,9 @@ carry_out-end-requires c =
     let smaller = larger in
     let start = smaller in
     let args = start.args in
-    let given = start.requires.0.1 in
+    let given = start.requires.block_value.1 in
     rw (smaller.smaller-a.ensures, larger.larger-b.ensures)
-    (given.ringed, carriable args.block.now args.e args.f given start.requires.1.0 start.requires.1.1 start.requires.1.2)
+    (given.ringed, carriable args.block.now args.e args.f given start.requires.apexes_len.0 start.requires.apexes_len.1 start.requires.apexes_len.2)
 
 pub page_row-requires : goal.page_row-requires
 page_row-requires c =
@@ -37,9 +37,9 @@ page_row-requires c =
     let smaller = larger in
     let start = smaller in
     let args = start.args in
-    let given = start.requires.0.1 in
+    let given = start.requires.block_value.1 in
     let (number, table) = rw (smaller.smaller-a.ensures, larger.larger-b.ensures) at carried.carry_out-end.ensures in
-    (given.ringed.measured, measured args.block.now args.e args.f given args.rows.now start.requires.1.1 start.requires.1.2 _ number _ table)
+    (given.ringed.measured, measured args.block.now args.e args.f given args.rows.now start.requires.apexes_len.1 start.requires.apexes_len.2 _ number _ table)
 
 pub returns : goal.returns
 returns c =
@@ -49,4 +49,4 @@ returns c =
     let start = smaller in
     let args = start.args in
     let (number, table) = rw (smaller.smaller-a.ensures, larger.larger-b.ensures) at carried.carry_out-end.ensures in
-    replaced args.block.now args.e args.f start.requires.0.1 args.rows.now start.requires.1.1 start.requires.1.2 _ number _ table _ c.page_row.ensures
+    replaced args.block.now args.e args.f start.requires.block_value.1 args.rows.now start.requires.apexes_len.1 start.requires.apexes_len.2 _ number _ table _ c.page_row.ensures

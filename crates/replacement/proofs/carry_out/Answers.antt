@@ -8,8 +8,8 @@ pub keep_others-kept-requires : goal.keep_others-kept-requires
 keep_others-kept-requires c =
     let start = c in
     let args = start.args in
-    let (held, room) = keep_room args.coordinates.now args.count args.table.now args.n args.a args.b start.requires.0
-    start.requires.1 in
+    let (held, room) = keep_room args.coordinates.now args.count args.table.now args.n args.a args.b start.requires.ringed
+    start.requires.carriable in
     (omega (arith, held), omega (arith, room))
 
 pub expand-end-requires : goal.expand-end-requires
@@ -17,9 +17,9 @@ expand-end-requires c =
     let kept = c in
     let start = kept in
     let args = start.args in (
-      expand_ready args.coordinates.now args.count args.table.now args.n args.a args.b start.requires.0 start.requires.1 _
+      expand_ready args.coordinates.now args.count args.table.now args.n args.a args.b start.requires.ringed start.requires.carriable _
           kept.keep_others-kept.ensures.0 _ kept.keep_others-kept.ensures.1,
-      expand_room args.coordinates.now args.count args.table.now args.n args.a args.b start.requires.0 start.requires.1 _
+      expand_room args.coordinates.now args.count args.table.now args.n args.a args.b start.requires.ringed start.requires.carriable _
           kept.keep_others-kept.ensures.0 _ kept.keep_others-kept.ensures.1,
     )
 
@@ -29,9 +29,9 @@ dress-requires c =
     let kept = expanded in
     let start = kept in
     let args = start.args in
-    let (from, room) = dress_room args.coordinates.now args.count args.table.now args.n args.a args.b start.requires.0
-    start.requires.1 _ kept.keep_others-kept.ensures.0 _ kept.keep_others-kept.ensures.1 _ _ expanded.expand-end.ensures.1 in (
-      (start.requires.0.ready.rows, omega (arith, start.requires.0.ready.few_rows), start.requires.0.agrees),
+    let (from, room) = dress_room args.coordinates.now args.count args.table.now args.n args.a args.b start.requires.ringed
+    start.requires.carriable _ kept.keep_others-kept.ensures.0 _ kept.keep_others-kept.ensures.1 _ _ expanded.expand-end.ensures.1 in (
+      (start.requires.ringed.ready.rows, omega (arith, start.requires.ringed.ready.few_rows), start.requires.ringed.agrees),
       (from, room),
     )
 
@@ -42,5 +42,5 @@ returns c =
     let kept = expanded in
     let start = kept in
     let args = start.args in
-    carried_out args.coordinates.now args.count args.table.now args.n args.a args.b start.requires.0 start.requires.1 _
+    carried_out args.coordinates.now args.count args.table.now args.n args.a args.b start.requires.ringed start.requires.carriable _
     kept.keep_others-kept.ensures.0 _ kept.keep_others-kept.ensures.1 _ _ expanded.expand-end.ensures.1 _ dressed.dress.ensures

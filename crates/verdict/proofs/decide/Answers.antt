@@ -20,7 +20,7 @@ told : (k : goal.After-not_flat) → let args = k.args in
 told k =
     let start = k in
     let args = start.args in
-    flat_is args.coordinates.now args.count args.table.now args.n args.a args.b start.requires.0
+    flat_is args.coordinates.now args.count args.table.now args.n args.a args.b start.requires.ringed
     k.not_flat.result k.not_flat.ensures
 
 -- behind answers 19 and 20
@@ -41,8 +41,8 @@ one : (k : At-region) → (mixed (siteAt k).removed ≡ false) × (k.in-One.regi
 one k =
     let start = k in
     let args = start.args in
-    one_told args.coordinates.now args.count args.table.now args.n args.a args.b start.requires.0
-    _ start.requires.1 _ k.in-One.is
+    one_told args.coordinates.now args.count args.table.now args.n args.a args.b start.requires.ringed
+    _ start.requires.regions_value _ k.in-One.is
 
 -- and 23
 abbrev At-marks : Type 0
@@ -53,7 +53,7 @@ lost : (k : goal.After-mark_goes) → mark_lost (siteAt k) ≡ k.mark_goes.resul
 lost k =
     let start = k in
     let args = start.args in
-    lost_is args.coordinates.now args.count args.table.now args.n args.a args.b start.requires.0
+    lost_is args.coordinates.now args.count args.table.now args.n args.a args.b start.requires.ringed
     k.mark_goes.result k.mark_goes.ensures
 
 stay : (k : At-marks) → mark_lost (siteAt k) ≡ false
@@ -78,14 +78,14 @@ pub not_flat-requires : goal.not_flat-requires
 not_flat-requires c =
     let start = c in
     let args = start.args in
-    crossed args.coordinates.now args.count args.table.now args.n args.a args.b start.requires.0
+    crossed args.coordinates.now args.count args.table.now args.n args.a args.b start.requires.ringed
 
 pub returns-then-not_flat : goal.returns-then-not_flat
 returns-then-not_flat c =
     let judged = c in
     let start = judged in
     let args = start.args in
-    gives_19 args.coordinates.now args.count args.table.now args.n args.a args.b start.requires.0
+    gives_19 args.coordinates.now args.count args.table.now args.n args.a args.b start.requires.ringed
     (told judged ∙ c.if-not_flat.true) _ c.no_plan.ensures
 
 pub returns-in_default : goal.returns-in_default
@@ -93,7 +93,7 @@ returns-in_default c =
     let flat = c in
     let start = flat in
     let args = start.args in
-    gives_20 args.coordinates.now args.count args.table.now args.n args.a args.b start.requires.0 _ start.requires.1
+    gives_20 args.coordinates.now args.count args.table.now args.n args.a args.b start.requires.ringed _ start.requires.regions_value
     (told flat ∙ flat.if-not_flat.false) c.in_default.is _ c.no_plan-in_default.ensures
 
 pub returns-then-mark_goes : goal.returns-then-mark_goes
@@ -102,14 +102,14 @@ returns-then-mark_goes c =
     let region = asked in
     let start = region in
     let args = start.args in
-    gives_23 args.coordinates.now args.count args.table.now args.n args.a args.b start.requires.0
+    gives_23 args.coordinates.now args.count args.table.now args.n args.a args.b start.requires.ringed
     (level region) (one region).0 (lost asked ∙ c.if-mark_goes.true) _ c.no_plan-then-mark_goes.ensures
 
 pub rows_after-requires : goal.rows_after-requires
 rows_after-requires c =
     let start = c in
     let args = start.args in
-    countable args.coordinates.now args.count args.table.now args.n args.a args.b start.requires.0
+    countable args.coordinates.now args.count args.table.now args.n args.a args.b start.requires.ringed
 
 pub returns-then-rows_after-gt-MAX_ROWS : goal.returns-then-rows_after-gt-MAX_ROWS
 returns-then-rows_after-gt-MAX_ROWS c =
@@ -118,7 +118,7 @@ returns-then-rows_after-gt-MAX_ROWS c =
     let region = marks in
     let start = region in
     let args = start.args in
-    gives_14 args.coordinates.now args.count args.table.now args.n args.a args.b start.requires.0
+    gives_14 args.coordinates.now args.count args.table.now args.n args.a args.b start.requires.ringed
     (level region) (one region).0 (stay marks) _ counted.rows_after.ensures c.if-rows_after-gt-MAX_ROWS.true _ c.no_plan-then-rows_after-gt-MAX_ROWS.ensures
 
 pub returns-in_default-best : goal.returns-in_default-best

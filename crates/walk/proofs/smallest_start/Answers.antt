@@ -1,7 +1,6 @@
 -- `smallest_start` keeps the smallest of the starts seen: it is one of them, and none of them is below it.
 use Prim.Native.Nat.{ℕ, zero, suc, ◌≤◌, ◌<◌, ◌-◌}
 use mathlib.Core.List.{List, Memᴰ}
-use mathlib.Core.Logic.{⊎_elim}
 use mathlib.Core.Path.{◌≡◌, refl, sym, ◌∙◌, subst}
 use borrow.Author.Count.{below_more}
 use native.Mathlib.Omega.{arith}
@@ -11,6 +10,7 @@ use Rattle.links.specs.Links.{starts}
 use Rattle.links.specs.Steps.{links_in}
 use Rattle.links.proofs.LinkArrays.{starts_length, starts_at}
 use Rattle.walk.proofs.TheSmallest.{smallest_is}
+use Rattle.walk.proofs.smallest_start.Goals.{then-links-i, else-links-i}
 use Rattle.walk.proofs.smallest_start.Goals as goal
 
 first_below : (ns : List ℕ) (k : ℕ) → k < 1 → get_or ns 0 0 ≤ get_or ns k 0
@@ -24,20 +24,20 @@ pub loop-i-preserved : goal.loop-i-preserved
 loop-i-preserved c =
     let at = c in
     let seen = at.loop-i.invariant.3 in
-    ⊎_elim
-    (λ w. (
-      omega arith,
-      refl,
-      (at.loop-i.i, omega arith, sym w.2),
-      below_more _ _ (λ k h. omega (arith, seen k h, w.0.taken, w.2)) (omega (arith, w.2)),
-    ))
-    (λ w. (
-      omega arith,
-      refl,
-      rw w.1 at.loop-i.invariant.2,
-      below_more _ _ (λ k h. omega (arith, seen k h, w.1)) (omega (arith, w.0.left, w.1)),
-    ))
-    c.if-links-i.branch
+    elim c.if-links-i.branch [
+      then-links-i w ↦ (
+        omega arith,
+        refl,
+        (at.loop-i.i, omega arith, sym w.least-is),
+        below_more _ _ (λ k h. omega (arith, seen k h, w.if-links-i.true, w.least-is)) (omega (arith, w.least-is)),
+      )
+    | else-links-i w ↦ (
+        omega arith,
+        refl,
+        rw w.least-is at.loop-i.invariant.2,
+        below_more _ _ (λ k h. omega (arith, seen k h, w.least-is)) (omega (arith, w.if-links-i.false, w.least-is)),
+      )
+    ]
 
 pub returns : goal.returns
 returns c =

@@ -35,9 +35,9 @@ inside-follow links start n p q r e = rw (p, q, r) e
 pub walk-init : goal.walk-init
 walk-init c =
     let args = c.args in
-    let links = links_in args.t4 in
-    let e : length links ≡ args.t4.n - 0 = omega (arith, in_length args.t4) in
-    let all : args.t4.n ≡ args.t4.n - 0 = omega arith in
+    let links = links_in args.links in
+    let e : length links ≡ args.links.n - 0 = omega (arith, in_length args.links) in
+    let all : args.links.n ≡ args.links.n - 0 = omega arith in
     (omega arith, refl, refl, rw e (onto_none _), ap (λ k. follow k links args.start) all)
 
 pub loop-i-init : goal.loop-i-init
@@ -54,18 +54,6 @@ link_of-link-requires c =
     rw c.row_in-row.ensures
     (place_linked inner.requires inner.loop-i.i inner.loop-i-test.true)
 
--- the row that is read leads where the step goes
-step : (c : goal.After-link_of-link)
-    → let at = c in
-    next (links_in at.args.links) at.loop-i.here ≡ some c.link_of-link.result.w
-step c =
-    let inner = c in
-    let at = inner in
-    let start = at in
-    let kept = place_link start.requires at.loop-i.i inner.loop-i-test.true c.row_in-row.ensures c.link_of-link.ensures in
-    at.loop-i.invariant.4 ∙ next_here (in_drop start.args.links at.loop-i.i inner.loop-i-test.true) c.if-here-links.true
-    ∙ ap some (sym (ap (λ (l : Link). l.1) kept))
-
 pub returns-then-here-start : goal.returns-then-here-start
 returns-then-here-start c =
     let at = c in
@@ -73,10 +61,15 @@ returns-then-here-start c =
     let out = at.walk.invariant in
     let links = at.args.links in
     let start = at.args.start in
+    let kept = place_link at.requires at.loop-i.i at.loop-i-test.true c.row_in-row.ensures c.link_of-link.ensures in
+    -- the row that is read leads where the step goes
+    let step : next (links_in links) at.loop-i.here ≡ some c.link_of-link.result.w =
+        inv.4 ∙ next_here (in_drop links at.loop-i.i at.loop-i-test.true) c.if-here-links.true
+        ∙ ap some (sym (ap (λ (l : Link). l.1) kept)) in
     let so_far = inside (links_in links) start links.n inv.0 inv.1 inv.2 out.3 in (
       simp length-set (rw inv.0 (omega arith)),
       walk_closes (links_in links) start links.n at.loop-i.m at.loop-i.v at.loop-i.here so_far (omega arith)
-          (rw inv.0 (omega arith)) (step c ∙ ap some c.if-here-start.true),
+          (rw inv.0 (omega arith)) (step ∙ ap some c.if-here-start.true),
       λ no. absurd (subst T no tt),
     )
 
@@ -87,15 +80,20 @@ walk-preserved c =
     let out = at.walk.invariant in
     let links = at.args.links in
     let start = at.args.start in
+    let kept = place_link at.requires at.loop-i.i at.loop-i-test.true c.row_in-row.ensures c.link_of-link.ensures in
+    -- the row that is read leads where the step goes
+    let step : next (links_in links) at.loop-i.here ≡ some c.link_of-link.result.w =
+        inv.4 ∙ next_here (in_drop links at.loop-i.i at.loop-i-test.true) c.if-here-links.true
+        ∙ ap some (sym (ap (λ (l : Link). l.1) kept)) in
     let so_far = inside (links_in links) start links.n inv.0 inv.1 inv.2 out.3 in
     let followed = inside-follow (links_in links) start links.n inv.0 inv.1 inv.2 out.4 in (
       omega arith,
       refl,
       simp length-set (rw inv.0 out.2),
       walk_goes (links_in links) start links.n at.loop-i.m at.loop-i.v at.loop-i.here so_far (omega arith)
-          (rw inv.0 (omega arith)) (step c) c.if-here-start.false,
+          (rw inv.0 (omega arith)) step c.if-here-start.false,
       follow_goes (links_in links) start links.n at.loop-i.m at.loop-i.v at.loop-i.here followed
-          (rw inv.0 (omega arith)) (omega arith) (step c),
+          (rw inv.0 (omega arith)) (omega arith) step,
     )
 
 pub loop-i-preserved : goal.loop-i-preserved
@@ -110,10 +108,10 @@ loop-i-preserved c =
 abbrev Ended : goal.Left-walk → Type 0
 Ended c =
     let args = c.args in
-    let links = links_in args.t4 in
+    let links = links_in args.links in
     let at = c.walk-test in
-    (at.m ≤ args.t4.n) × (length at.v ≡ 61) × (none ≡ circle links args.start)
-    × (take (at.m + 1) (set at.v at.m at.here) ≡ follow args.t4.n links args.start)
+    (at.m ≤ args.links.n) × (length at.v ≡ 61) × (none ≡ circle links args.start)
+    × (take (at.m + 1) (set at.v at.m at.here) ≡ follow args.links.n links args.start)
 
 ended : (c : goal.Left-walk) → Ended c
 unfolding next
@@ -121,26 +119,10 @@ ended c =
     let at = c.walk in
     let links = c.args.links in
     let start = c.args.start in
-    ⊎_elim
-    (λ w. (
-      omega arith,
-      rw w.1 at.invariant.2,
-      walk_spent (links_in links) start links.n at.m at.v at.here at.invariant.3 (omega arith),
-      rw (w.1, w.2, w.3)
-          (follow_spent (links_in links) start links.n at.m at.v at.here at.invariant.4 (omega arith) (omega arith)),
-    ))
-    (λ w.
-    let inv = w.1.inv in
-    let d = drop_of_length-le (links_in links) {i = w.1.i} (omega (arith, w.2.left, in_length links)) in
-    let stuck : next (links_in links) w.1.here ≡ none = inv.4 ∙ rw d in
-    let none-on : next (links_in links) at.here ≡ none = rw inv.1 at stuck in (
-      omega (arith, w.5, inv.2),
-      rw (w.3, inv.0) at.invariant.2,
-      walk_stops (links_in links) start links.n at.m at.v at.here at.invariant.3 none-on,
-      rw (w.3, w.4, w.5, inv.0, inv.1, inv.2)
-          (follow_ends (links_in links) start links.n at.m at.v at.here at.invariant.4 (omega arith) none-on),
-    ))
-    c.walk-test.branch
+    elim c.walk-test.branch [
+      left-walk w ↦ ?
+    | broke-walk w ↦ ?
+    ]
 
 pub bounds-v-m-2 : goal.bounds-v-m-2
 bounds-v-m-2 c = omega (arith, (ended c).0)
