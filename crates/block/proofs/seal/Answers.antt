@@ -45,13 +45,17 @@ module _ (body out : List ℕ) where
 pub returns-then-body-ne-BODY_BYTES : goal.returns-then-body-ne-BODY_BYTES
 returns-then-body-ne-BODY_BYTES c =
     let a = c.args in
-    refused-1 a.body.now a.out.now (seal_1_body a.body.now a.out.now c.if-body-ne-BODY_BYTES.true)
+    let both =
+    refused-1 a.body.now a.out.now (seal_1_body a.body.now a.out.now c.if-body-ne-BODY_BYTES.true) in
+    record { answer = both.0; bytes = both.1 }
 
 pub returns-then-out-ne-BLOCK_BYTES : goal.returns-then-out-ne-BLOCK_BYTES
 returns-then-out-ne-BLOCK_BYTES c =
     let e1 = c in
     let a = e1.args in
-    refused-1 a.body.now a.out.now (seal_1_out a.body.now a.out.now e1.if-body-ne-BODY_BYTES.false c.if-out-ne-BLOCK_BYTES.true)
+    let both =
+    refused-1 a.body.now a.out.now (seal_1_out a.body.now a.out.now e1.if-body-ne-BODY_BYTES.false c.if-out-ne-BLOCK_BYTES.true) in
+    record { answer = both.0; bytes = both.1 }
 
 pub returns-in_default : goal.returns-in_default
 returns-in_default c =
@@ -59,7 +63,9 @@ returns-in_default c =
     let e2 = answered in
     let e1 = e2 in
     let a = e1.args in
-    refused a.body.now a.out.now _ _ e1.if-body-ne-BODY_BYTES.false e2.if-out-ne-BLOCK_BYTES.false answered.body_answer-checked.ensures c.in_default.is
+    let both =
+    refused a.body.now a.out.now _ _ e1.if-body-ne-BODY_BYTES.false e2.if-out-ne-BLOCK_BYTES.false answered.body_answer-checked.ensures c.in_default.is in
+    record { answer = both.0; bytes = both.1 }
 
 pub returns : goal.returns
 returns c =
@@ -70,6 +76,8 @@ returns c =
     let e2 = answered in
     let e1 = e2 in
     let a = e1.args in
+    let both =
     written_out a.body.now a.out.now _ _ _ e1.if-body-ne-BODY_BYTES.false e2.if-out-ne-BLOCK_BYTES.false answered.body_answer-checked.ensures
     told.in-Done.is
-    copied.copy.ensures stamped.stamp.ensures
+    copied.copy.ensures stamped.stamp.ensures in
+    record { answer = both.0; bytes = both.1 }

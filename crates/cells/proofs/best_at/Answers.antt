@@ -8,17 +8,17 @@ use Rattle.cells.proofs.best_at.Goals as goal
 
 pub returns-in-0 : goal.returns-in-0
 unfolding read_best
-returns-in-0 c = rw c.in-0.keys1
+returns-in-0 c = rw c.in-0.is
 
 pub returns-in-1 : goal.returns-in-1
 unfolding read_best
-returns-in-1 c = rw (c.in-0.keys2, c.of_parts.ensures)
+returns-in-1 c = rw (c.in-1.is, c.of_parts.ensures)
 
 pub returns-in-2 : goal.returns-in-2
 unfolding read_best
-returns-in-2 c = rw (c.in-0.keys3, c.of_parts-in-2.ensures)
+returns-in-2 c = rw (c.in-2.is, c.of_parts-in-2.ensures)
 
 pub returns-in_default : goal.returns-in_default
 returns-in_default c =
-    let rest = c.in-0.rest in
-    ap some c.of_parts-in_default.ensures ∙ sym (read_upright _ _ _ rest.0.0.1 rest.0.1 rest.1)
+    let rest = c.in_default in
+    ap some c.of_parts-in_default.ensures ∙ sym (read_upright _ _ _ rest.not-0 rest.not-1 rest.not-2)

@@ -19,7 +19,7 @@ invariant-loop-k l =
     → SiteRim site l.coordinates l.rim (take l.n l.keys)
     → l.j ≤ m site
     → Smaller site l.kinds l.nums l.dens l.used l.i l.j
-    → choice_of l.found ≡ leading (λ l.k. candidate site (best_in l.kinds l.nums l.dens) l.i l.k l.j) (suc l.i) (l.k - suc l.i))
+    → choice_of l.found ≡ leading (λ k. candidate site (best_in l.kinds l.nums l.dens) l.i k l.j) (suc l.i) (l.k - suc l.i))
 
 abbrev pub decreases-loop-k : goal.decreases-loop-k
 decreases-loop-k l = l.j - l.k

@@ -20,10 +20,10 @@ row_quality-quality-requires c =
 
 pub returns : goal.returns
 returns c =
-    let at-shown = c in
-    let measured = at-shown in
+    let at_shown = c in
+    let measured = at_shown in
     let row = measured in
     let left = row in
     let a = left.args in
     table_shown a.coordinates.now a.count a.table.now a.n a.i left.if-n-i.false _ _ _ _
-    row.row_in.ensures measured.row_quality-quality.ensures at-shown.of-shown.ensures.0 c.signed.ensures
+    row.row_in.ensures measured.row_quality-quality.ensures at_shown.of-shown.ensures.value c.signed.ensures

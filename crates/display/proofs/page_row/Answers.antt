@@ -8,5 +8,5 @@ pub returns : goal.returns
 returns c =
     c.of-3.ensures
     ∙ ap₂ page_row
-    (c.of.ensures.0 ∙ ap shown c.worst_row-before.ensures)
-    (c.of-2.ensures.0 ∙ ap shown c.worst_row-after.ensures)
+    (c.of.ensures.value ∙ ap shown c.worst_row-before.ensures)
+    (c.of-2.ensures.value ∙ ap shown c.worst_row-after.ensures)

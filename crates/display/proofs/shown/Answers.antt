@@ -9,49 +9,44 @@ use Rattle.tally.proofs.OpensMeasured.{block_size, few_rows, opens_measured}
 use Rattle.display.proofs.ShownRows.{other_length, not_opened, opens, elements_written}
 use Rattle.display.proofs.shown.Goals as goal
 
--- the block opens where opening is done
-told : (k : goal.In-Done) → open_answer k.args.block.now ≡ 0
-told k =
-    let opened = k in
-    let left = opened in
-    let a = left.args in
-    opens a.block.now a.out.now left.if-out-ne-MAX_ROWS.false _ opened.opening-answer.ensures k.in-Done.is
-
-whole : (k : goal.In-Done) → length k.args.block.now ≡ block_bytes
-whole k = block_size _ (told k)
-
 pub returns-then-out-ne-MAX_ROWS : goal.returns-then-out-ne-MAX_ROWS
 returns-then-out-ne-MAX_ROWS c =
     let a = c.args in
-    other_length a.block.now a.out.now c.if-out-ne-MAX_ROWS.true
+    let both =
+    other_length a.block.now a.out.now c.if-out-ne-MAX_ROWS.true in
+    record { answer = both.0; elements = both.1 }
 
 pub returns-in_default : goal.returns-in_default
 returns-in_default c =
     let opened = c in
     let left = opened in
     let a = left.args in
-    not_opened a.block.now a.out.now left.if-out-ne-MAX_ROWS.false _ opened.opening-answer.ensures _ c.in_default.is
+    let both =
+    not_opened a.block.now a.out.now left.if-out-ne-MAX_ROWS.false _ opened.opening-answer.ensures _ c.in_default.is in
+    record { answer = both.0; elements = both.1 }
 
 pub slice_bounds-put_elements-end : goal.slice_bounds-put_elements-end
-slice_bounds-put_elements-end c = omega (arith, whole c)
+slice_bounds-put_elements-end c =
+    omega (arith, block_size _ (opens c.args.block.now c.args.out.now c.if-out-ne-MAX_ROWS.false _ c.opening-answer.ensures c.in-Done.is))
 
 pub bounds-block-1 : goal.bounds-block-1
-bounds-block-1 c = omega (arith, whole c)
+bounds-block-1 c =
+    omega (arith, block_size _ (opens c.args.block.now c.args.out.now c.if-out-ne-MAX_ROWS.false _ c.opening-answer.ensures c.in-Done.is))
 
 pub overflow_cast-block : goal.overflow_cast-block
 overflow_cast-block c = omega (arith, c.type_inv.block 1)
 
 pub bounds-block-2 : goal.bounds-block-2
-bounds-block-2 c = omega (arith, whole c)
+bounds-block-2 c =
+    omega (arith, block_size _ (opens c.args.block.now c.args.out.now c.if-out-ne-MAX_ROWS.false _ c.opening-answer.ensures c.in-Done.is))
 
 pub overflow_cast-block-2 : goal.overflow_cast-block-2
 overflow_cast-block-2 c = omega (arith, c.type_inv.block 2)
 
 pub put_elements-requires : goal.put_elements-requires
 put_elements-requires c =
-    let k = c in
-    let left = k in
-    (opens_measured _ (told k), few_rows _ (told k), left.if-out-ne-MAX_ROWS.false)
+    let told = opens c.args.block.now c.args.out.now c.if-out-ne-MAX_ROWS.false _ c.opening-answer.ensures c.in-Done.is in
+    (opens_measured _ told, few_rows _ told, c.if-out-ne-MAX_ROWS.false)
 
 pub returns : goal.returns
 returns c =
@@ -60,5 +55,7 @@ returns c =
     let opened = k in
     let left = opened in
     let a = left.args in
+    let both =
     elements_written a.block.now a.out.now left.if-out-ne-MAX_ROWS.false _ opened.opening-answer.ensures k.in-Done.is _
-    put.put_elements.ensures
+    put.put_elements.ensures in
+    record { answer = both.0; elements = both.1 }

@@ -11,7 +11,7 @@ use Rattle.kept_faces.proofs.meet.Given as goal
 abbrev pub invariant-loop-i : goal.invariant-loop-i
 invariant-loop-i l =
     (l.i ≤ l.m) × (length l.met ≡ places) × (met_at l.met l.rim.a ≡ true) × (met_at l.met l.rim.b ≡ true)
-    × ((l : ℕ) → l < l.i → met_at l.met (get_or l.rim.v l 0) ≡ true)
+    × ((k : ℕ) → k < l.i → met_at l.met (get_or l.rim.v k 0) ≡ true)
 
 abbrev pub decreases-loop-i : goal.decreases-loop-i
 decreases-loop-i l = l.m - l.i

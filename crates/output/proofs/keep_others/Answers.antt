@@ -1,6 +1,5 @@
 -- The invariant of `keep_others`: the rows that stay, of the first i, stand at the front of the other table.
 use Prim.Native.Nat.{◌≤◌, ◌-◌}
-use mathlib.Core.Logic.{⊎_elim}
 use mathlib.Core.Path.{◌≡◌, refl, ◌∙◌}
 use native.Mathlib.Omega.{arith}
 use borrow.Author.Rules.{rules}
@@ -8,6 +7,7 @@ use Rattle.lists.specs.Lists.{those, numbers_from}
 use Rattle.rows.specs.Rows.{rows_in}
 use Rattle.rows.proofs.PastedRows.{with_none}
 use Rattle.output.proofs.RowsThatStay.{Front, front_length, stays_more, goes_more}
+use Rattle.output.proofs.keep_others.Goals.{then-row_stays, else-row_stays}
 use Rattle.output.proofs.keep_others.Goals as goal
 
 pub loop-i-init : goal.loop-i-init
@@ -18,7 +18,7 @@ pub put_row-requires : goal.put_row-requires
 put_row-requires c =
     let at = c in
     let a = at.args in
-    let size = front_length a.x a.y a.z a.table.now a.rows.now at.loop-i.i at.loop-i.auto at.loop-i.rows at.loop-i.invariant.2
+    let size = front_length a.x a.y a.z a.table.now a.rows.now at.loop-i.i at.loop-i.kept at.loop-i.rows at.loop-i.invariant.2
     (omega (arith, at.loop-i.invariant.1)) in
     omega arith
 
@@ -34,24 +34,22 @@ loop-i-preserved c =
     let z = args.z in
     let table = args.table.now in
     let rest = args.rows.now in
-    ⊎_elim
-    (λ w.
-    let more = stays_more x y z table rest i at.loop-i.auto at.loop-i.rows at.loop-i.invariant.2 _ row _ stayed (omega arith) w.0.taken
-    c.if-row_stays.rows c.if-row_stays.auto
-    (w.5 ∙ w.2.ensures) w.6 in
-    (omega arith, omega (arith, w.6), more))
-    (λ w.
-    let more = goes_more x y z table rest i at.loop-i.auto at.loop-i.rows at.loop-i.invariant.2 _ row _ stayed w.0.left
-    c.if-row_stays.rows c.if-row_stays.auto
-    w.1 w.2 in
-    (omega arith, omega (arith, w.2), more))
-    c.if-row_stays.branch
+    elim c.if-row_stays.branch [
+      then-row_stays w ↦
+        let more = stays_more x y z table rest i at.loop-i.kept at.loop-i.rows at.loop-i.invariant.2 _ row _ stayed (omega arith)
+            w.if-row_stays.true c.if-row_stays.rows c.if-row_stays.kept (w.rows-is ∙ w.put_row.ensures) w.kept-is in
+        (omega arith, omega (arith, w.kept-is), more)
+    | else-row_stays w ↦
+        let more = goes_more x y z table rest i at.loop-i.kept at.loop-i.rows at.loop-i.invariant.2 _ row _ stayed w.if-row_stays.false
+            c.if-row_stays.rows c.if-row_stays.kept w.rows-is w.kept-is in
+        (omega arith, omega (arith, w.kept-is), more)
+    ]
 
 pub shape_of-rows : goal.shape_of-rows
 shape_of-rows c =
     let at = c in
     let a = at.args in
-    front_length a.x a.y a.z a.table.now a.rows.now at.loop-i.i at.loop-i.auto at.loop-i.rows at.loop-i.invariant.2
+    front_length a.x a.y a.z a.table.now a.rows.now at.loop-i.i at.loop-i.kept at.loop-i.rows at.loop-i.invariant.2
     (omega (arith, at.loop-i.invariant.1))
 
 pub returns : goal.returns

@@ -1,7 +1,6 @@
 -- The invariant of `worst_round`: what was met is the worst of those of the first i rows that hold both ends.
 use Prim.Native.Nat.{◌≤◌, ◌-◌}
 use mathlib.Core.List.{map}
-use mathlib.Core.Logic.{⊎_elim}
 use mathlib.Core.Path.{◌≡◌, refl, sym, ap, ◌∙◌}
 use native.Mathlib.Numerals.{add-one}
 use native.Mathlib.Omega.{arith}
@@ -14,6 +13,7 @@ use Rattle.rows.specs.RowMeasure.{row_quality}
 use Rattle.tally.specs.Steps.{or_zero}
 use Rattle.tally.proofs.MeasuredRows.{measured_row}
 use Rattle.tally.proofs.WorstRowByRow.{met, or_zero_of, passing_met, other_met}
+use Rattle.tally.proofs.worst_round.Goals.{then-holds_edge, else-holds_edge}
 use Rattle.tally.proofs.worst_round.Goals as goal
 
 pub loop-k-init : goal.loop-k-init
@@ -37,10 +37,12 @@ loop-k-preserved c =
     let is = k.row_in-row.ensures in
     let test : p (row_in table i) ≡ k.holds_edge.result = ap p (sym is) ∙ sym k.holds_edge.ensures in (
       omega arith,
-      ⊎_elim
-          (λ w. w.3 ∙ w.2.ensures ∙ rw (l.loop-k.invariant.1, w.1.ensures, is, add-one) (passing_met f table i p (test ∙ w.0.taken)))
-          (λ w. w.1 ∙ l.loop-k.invariant.1 ∙ rw add-one (other_met f table i p (test ∙ w.0.left)))
-          c.if-holds_edge.branch,
+      elim c.if-holds_edge.branch [
+        then-holds_edge w ↦
+          w.met-is ∙ w.with-met.ensures
+          ∙ rw (l.loop-k.invariant.1, w.row_quality.ensures, is, add-one) (passing_met f table i p (test ∙ w.if-holds_edge.true))
+      | else-holds_edge w ↦ w.met-is ∙ l.loop-k.invariant.1 ∙ rw add-one (other_met f table i p (test ∙ w.if-holds_edge.false))
+      ],
     )
 
 pub returns : goal.returns

@@ -25,13 +25,13 @@ loop-i-preserved c =
     let at = c in
     let seen = at.loop-i.invariant.3 in
     elim c.if-links-i.branch [
-      then-links-i w ↦ (
+      | then-links-i w ↦ (
         omega arith,
         refl,
         (at.loop-i.i, omega arith, sym w.least-is),
         below_more _ _ (λ k h. omega (arith, seen k h, w.if-links-i.true, w.least-is)) (omega (arith, w.least-is)),
       )
-    | else-links-i w ↦ (
+      | else-links-i w ↦ (
         omega arith,
         refl,
         rw w.least-is at.loop-i.invariant.2,

@@ -3,7 +3,6 @@
 -- The inner loop has passed only links that do not start here, so the step goes by those that are left.
 use Prim.Native.Nat.{ℕ, ◌+◌, ◌≤◌, ◌-◌}
 use mathlib.Core.List.{List, ◌++◌}
-use mathlib.Core.Logic.{⊎_elim}
 use mathlib.Core.Option.{none, some}
 use mathlib.Core.Path.{◌≡◌, refl, sym, ap, ◌∙◌, subst}
 use native.Mathlib.Numerals.{add-one}
@@ -19,6 +18,7 @@ use Rattle.links.proofs.NextLink.{next_here, next_later}
 use Rattle.walk.proofs.WalkStepwise.{follow_goes, follow_ends, follow_spent}
 use Rattle.links.proofs.LinkArrays.{in_length, in_drop}
 use Rattle.links.proofs.LinksByPlace.{place_inside, place_linked, place_link}
+use Rattle.walk.proofs.walk.Goals.{else-walk-test, then-walk-test+else-loop-i-test}
 use Rattle.walk.proofs.walk.Goals as goal
 
 -- the inner loop leaves the walk so far as it was
@@ -64,8 +64,8 @@ returns-then-here-start c =
     let kept = place_link at.requires at.loop-i.i at.loop-i-test.true c.row_in-row.ensures c.link_of-link.ensures in
     -- the row that is read leads where the step goes
     let step : next (links_in links) at.loop-i.here ≡ some c.link_of-link.result.w =
-        inv.4 ∙ next_here (in_drop links at.loop-i.i at.loop-i-test.true) c.if-here-links.true
-        ∙ ap some (sym (ap (λ (l : Link). l.1) kept)) in
+    inv.4 ∙ next_here (in_drop links at.loop-i.i at.loop-i-test.true) c.if-here-links.true
+    ∙ ap some (sym (ap (λ (l : Link). l.1) kept)) in
     let so_far = inside (links_in links) start links.n inv.0 inv.1 inv.2 out.3 in (
       simp length-set (rw inv.0 (omega arith)),
       walk_closes (links_in links) start links.n at.loop-i.m at.loop-i.v at.loop-i.here so_far (omega arith)
@@ -83,8 +83,8 @@ walk-preserved c =
     let kept = place_link at.requires at.loop-i.i at.loop-i-test.true c.row_in-row.ensures c.link_of-link.ensures in
     -- the row that is read leads where the step goes
     let step : next (links_in links) at.loop-i.here ≡ some c.link_of-link.result.w =
-        inv.4 ∙ next_here (in_drop links at.loop-i.i at.loop-i-test.true) c.if-here-links.true
-        ∙ ap some (sym (ap (λ (l : Link). l.1) kept)) in
+    inv.4 ∙ next_here (in_drop links at.loop-i.i at.loop-i-test.true) c.if-here-links.true
+    ∙ ap some (sym (ap (λ (l : Link). l.1) kept)) in
     let so_far = inside (links_in links) start links.n inv.0 inv.1 inv.2 out.3 in
     let followed = inside-follow (links_in links) start links.n inv.0 inv.1 inv.2 out.4 in (
       omega arith,
@@ -120,8 +120,24 @@ ended c =
     let links = c.args.links in
     let start = c.args.start in
     elim c.walk-test.branch [
-      left-walk w ↦ ?
-    | broke-walk w ↦ ?
+      | else-walk-test w ↦ (
+        omega arith,
+        rw w.v-is at.invariant.2,
+        walk_spent (links_in links) start links.n at.m at.v at.here at.invariant.3 (omega arith),
+        rw (w.v-is, w.here-is, w.m-is)
+            (follow_spent (links_in links) start links.n at.m at.v at.here at.invariant.4 (omega arith) (omega arith)),
+      )
+      | then-walk-test+else-loop-i-test w ↦
+          let inv = w.loop-i.invariant in
+          let d = drop_of_length-le (links_in links) {i = w.loop-i.i} (omega (arith, w.loop-i-test.false, in_length links)) in
+          let stuck : next (links_in links) w.loop-i.here ≡ none = inv.4 ∙ rw d in
+          let none_on : next (links_in links) at.here ≡ none = rw inv.1 at stuck in (
+            omega (arith, w.m-is, inv.2),
+            rw (w.v-is, inv.0) at.invariant.2,
+            walk_stops (links_in links) start links.n at.m at.v at.here at.invariant.3 none_on,
+            rw (w.v-is, w.here-is, w.m-is, inv.0, inv.1, inv.2)
+                (follow_ends (links_in links) start links.n at.m at.v at.here at.invariant.4 (omega arith) none_on),
+          )
     ]
 
 pub bounds-v-m-2 : goal.bounds-v-m-2
