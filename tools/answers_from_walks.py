@@ -193,7 +193,7 @@ class Turner:
         """A lemma of the file's own."""
         m = re.search(r"^(?:abbrev )?(?:pub )?(" + IDENT + r") : ", block, re.M)
         # from a place to a place: only a walk
-        if m and re.search(r": (?:\(\w+ : )?tie\.[A-Z][\w-]*[^→]*→ *tie\.[A-Z][\w-]*\s*$", block.split("\n" + m[1])[0].strip()) or m and re.match(r"^(abbrev )?" + re.escape(m[1]) + r" : [\w.-]+ → [\w.-]+$", block.split("\n")[[i for i, l in enumerate(block.split("\n")) if not l.startswith("--")][0]]) and "before" in block and "args" not in block:
+        if m and re.search(r" : (?:tie\.[A-Z][\w-]*|At-[\w-]+) → (?:tie\.[A-Z][\w-]*|At-[\w-]+)\n", block):
             self.walkers.add(m[1])
             return ""
         rooted = set(re.findall(r"\((" + IDENT + r") : (?:tie\.[A-Z]|[A-Z][\w-]*\))", block)) | {"c", "k"}

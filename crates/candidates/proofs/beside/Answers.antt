@@ -1,5 +1,4 @@
 -- `beside` goes by the side's three cases.
-use borrow.Author.Rules.{rules}
 use Rattle.candidates.proofs.beside.Goals as goal
 
 pub returns-in-Neighbours : goal.returns-in-Neighbours

@@ -4,7 +4,6 @@ use mathlib.Core.Bool.{Bool, true, false, cond}
 use mathlib.Core.List.{List}
 use mathlib.Core.Option.{Option, some, none}
 use mathlib.Core.Path.{◌≡◌, refl, sym, subst, ◌∙◌}
-use borrow.Author.Rules.{rules}
 use Rattle.quality.specs.declared.Quality.{Quality}
 use Rattle.candidates.specs.declared.Bipyramid.{Bipyramid}
 use Rattle.candidates.specs.declared.Side.{Side}

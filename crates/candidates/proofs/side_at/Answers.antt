@@ -1,7 +1,6 @@
 -- `side_at` is the side that the arrays hold: neighbours, a used closing side, or what the cell keeps.
 use mathlib.Core.Option.{none, some}
 use mathlib.Core.Path.{sym}
-use borrow.Author.Rules.{rules}
 use Rattle.candidates.proofs.SideRead.{side_near, side_used_lem, side_read}
 use Rattle.candidates.proofs.side_at.Goals as goal
 

@@ -1,5 +1,4 @@
 -- `worst_of_two` measures the two rows over their five places.
-use borrow.Author.Rules.{rules}
 use Rattle.candidates.specs.Steps.{worst_over}
 use Rattle.candidates.proofs.worst_of_two.Goals as goal
 

@@ -1,7 +1,7 @@
 -- `best_at` reads a cell by its kind: 0 is the mark, and everything over 2 is upright.
 use mathlib.Core.Option.{some}
 use mathlib.Core.Path.{sym, ap, ◌∙◌}
-use borrow.Author.Rules.{rules}
+use native.Mathlib.Omega.{arith}
 use Rattle.cells.specs.Steps.{read_best}
 use Rattle.cells.proofs.CellsRead.{read_upright}
 use Rattle.cells.proofs.best_at.Goals as goal
@@ -20,5 +20,4 @@ returns-in-2 c = rw (c.in-2.is, c.of_parts-in-2.ensures)
 
 pub returns-in_default : goal.returns-in_default
 returns-in_default c =
-    let rest = c.in_default in
-    ap some c.of_parts-in_default.ensures ∙ sym (read_upright _ _ _ rest.not-0 rest.not-1 rest.not-2)
+    ap some c.of_parts-in_default.ensures ∙ sym (read_upright _ _ _ (omega arith) (omega arith) (omega arith))

@@ -1,7 +1,6 @@
 -- `cell_at` computes the place; a product of two numbers below ten fits.
 use mathlib.Core.Path.{refl}
 use native.Mathlib.Omega.{arith}
-use borrow.Author.Rules.{rules}
 use Rattle.cells.specs.Steps.{cell_at}
 use Rattle.cells.proofs.CellPlaces.{cell_in, cell_room, ended_by}
 use Rattle.cells.proofs.cell_at.Goals as goal

@@ -1,5 +1,4 @@
 -- `cell_of` keeps a choice field by field.
-use borrow.Author.Rules.{rules}
 use Rattle.cells.proofs.cell_of.Goals as goal
 
 pub returns-in-Nothing : goal.returns-in-Nothing

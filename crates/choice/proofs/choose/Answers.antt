@@ -1,15 +1,11 @@
 -- `choose` has kept what a loop over the apexes from i + 1 to below k keeps.
-use Prim.Native.Nat.{suc, ◌+◌, ◌≤◌, ◌<◌, ◌-◌}
+use Prim.Native.Nat.{suc, ◌+◌, ◌-◌}
 use mathlib.Core.Path.{◌≡◌, ap, ap₂, ◌∙◌}
 use native.Mathlib.Omega.{arith}
 use lib.ListN.{take}
-use borrow.Author.Rules.{rules}
-use Rattle.ring.specs.Ring.{Site, m}
 use Rattle.triangulation.specs.Steps.{candidate, leading}
-use Rattle.kept_faces.specs.Steps.{SiteRim}
-use Rattle.choice.specs.Steps.{Smaller}
 use Rattle.candidates.specs.Steps.{candidate_over, two_over}
-use Rattle.cells.specs.Steps.{best_in, choice_of}
+use Rattle.cells.specs.Steps.{best_in}
 use Rattle.choice.proofs.CandidateComputed.{step_is, candidate_is}
 use Rattle.choice.proofs.choose.Goals as goal
 
@@ -25,13 +21,11 @@ two_over-rows-requires c = (omega arith, omega arith, omega arith, omega arith)
 
 pub side_at-left-requires : goal.side_at-left-requires
 side_at-left-requires c =
-    let s = c in
-    (s.requires.arrays.0, (omega arith, omega arith, omega arith))
+    record { arrays = c.requires.arrays.0; le_i = (omega arith, omega arith, omega arith) }
 
 pub side_at-right-requires : goal.side_at-right-requires
 side_at-right-requires c =
-    let s = c in
-    (s.requires.arrays.0, (omega arith, omega arith, omega arith))
+    record { arrays = c.requires.arrays.0; le_i = (omega arith, omega arith, omega arith) }
 
 pub candidate-requires : goal.candidate-requires
 candidate-requires c =

@@ -1,15 +1,11 @@
-use Prim.Native.Nat.{suc, ◌+◌, ◌≤◌, ◌<◌, ◌-◌}
-use mathlib.Core.Path.{◌≡◌, ap, ap₂, ◌∙◌}
-use native.Mathlib.Omega.{arith}
+use Prim.Native.Nat.{suc, ◌≤◌, ◌<◌, ◌-◌}
+use mathlib.Core.Path.{◌≡◌}
 use lib.ListN.{take}
-use borrow.Author.Rules.{rules}
 use Rattle.ring.specs.Ring.{Site, m}
 use Rattle.triangulation.specs.Steps.{candidate, leading}
 use Rattle.kept_faces.specs.Steps.{SiteRim}
 use Rattle.choice.specs.Steps.{Smaller}
-use Rattle.candidates.specs.Steps.{candidate_over, two_over}
 use Rattle.cells.specs.Steps.{best_in, choice_of}
-use Rattle.choice.proofs.CandidateComputed.{step_is, candidate_is}
 use Rattle.choice.proofs.choose.Given as goal
 
 abbrev pub invariant-loop-k : goal.invariant-loop-k

@@ -1,6 +1,5 @@
 -- `taken` keeps as `keep` does: the candidate if there is nothing yet or it is better.
 use mathlib.Core.Path.{sym, ◌∙◌}
-use borrow.Author.Rules.{rules}
 use Rattle.choice.proofs.taken.Goals as goal
 
 pub returns-in_default-found : goal.returns-in_default-found

@@ -15,7 +15,7 @@ wrapping_add_u64-sum-requires c = tt
 pub loop-i-preserved : goal.loop-i-preserved
 loop-i-preserved c =
     let l = c in
-    (omega arith, total_more l.args.cells l.loop-i.i l.loop-i.sum _ l.loop-i.invariant.1 c.wrapping_add_u64-sum.ensures)
+    (omega arith, total_more l.args.cells l.loop-i.i l.loop-i.sum _ l.loop-i.invariant.1 c.wrapping_add_u64-sum.ensures.value)
 
 pub returns : goal.returns
 returns c =

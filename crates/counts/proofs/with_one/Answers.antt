@@ -3,4 +3,4 @@ use Rattle.std.proofs.Common.{set, ap, rules}
 use Rattle.counts.proofs.with_one.Goals as goal
 
 pub returns : goal.returns
-returns c = ap (set c.args.cells c.args.at) c.wrapping_add_u64.ensures
+returns c = ap (set c.args.cells c.args.at) c.wrapping_add_u64.ensures.value

@@ -2,21 +2,12 @@
 use mathlib.Core.Path.{◌≡◌, ◌∙◌}
 use native.Mathlib.Omega.{arith}
 use borrow.Author.Rules.{rules}
-use lib.ListN.{length}
-use Rattle.layout.specs.Layout.{block_bytes}
 use Rattle.tally.proofs.OpensMeasured.{block_size}
 use Rattle.edge.proofs.EdgeAnswers.{edge_9_first, edge_9_second, edge_9_same, edge_table, edge_ring}
 use Rattle.edge.proofs.edge_at.Goals as goal
 
--- after the point count is read
-abbrev At-count : Type 0
-At-count = goal.After-shared_slice_known-2-1
-
-size : (k : At-count) → length k.args.block.now ≡ block_bytes
-size k = block_size k.args.block.now k.requires
-
 pub bounds-block-1 : goal.bounds-block-1
-bounds-block-1 c = omega (arith, size c)
+bounds-block-1 c = omega (arith, block_size c.args.block.now c.requires)
 
 pub overflow_cast-count : goal.overflow_cast-count
 overflow_cast-count c = omega (arith, c.type_inv.block 1)
@@ -45,7 +36,7 @@ returns-then-e-f c =
     c.if-count-f.false c.if-e-f.true
 
 pub bounds-block-2 : goal.bounds-block-2
-bounds-block-2 c = omega (arith, size c)
+bounds-block-2 c = omega (arith, block_size c.args.block.now c.requires)
 
 pub overflow_cast-block : goal.overflow_cast-block
 overflow_cast-block c = omega (arith, c.type_inv.block 2)

@@ -1,7 +1,6 @@
 -- `apex_at` reads the cell of (i,j); what it keeps lies between the ends.
 use mathlib.Core.Path.{refl}
 use native.Mathlib.Omega.{arith}
-use borrow.Author.Rules.{rules}
 use Rattle.expansion.proofs.apex_at.Goals as goal
 
 pub overflow_cast-result : goal.overflow_cast-result

@@ -1,7 +1,6 @@
 -- The invariant of `share`: what is kept is what the first i rows give.
 use Prim.Native.Nat.{◌≤◌, ◌-◌}
 use mathlib.Core.List.{[], ◌∷◌}
-use mathlib.Core.Logic.{⊎_elim}
 use mathlib.Core.Path.{◌≡◌, ◌∙◌}
 use native.Mathlib.Omega.{arith}
 use borrow.Author.Rules.{rules}
@@ -14,6 +13,7 @@ use Rattle.walk.specs.Walk.{smallest}
 use Rattle.calls.specs.Flipping.{pair_of}
 use Rattle.face.specs.Steps.{sharing_in}
 use Rattle.face.proofs.FaceShared.{share_few, held_next, other_next}
+use Rattle.face.proofs.share.Goals.{then-holds_face, else-holds_face}
 use Rattle.face.proofs.share.Goals as goal
 
 pub loop-i-init : goal.loop-i-init
@@ -34,18 +34,18 @@ loop-i-preserved c =
     let face = args.x ∷ args.y ∷ args.z ∷ [] in
     let row = c.row_in-row.ensures in
     let held = c.holds_face.ensures in
-    ⊎_elim
-    (λ w. (
-      omega arith,
-      held_next face args.table.now at.loop-i.i at.loop-i.found at.loop-i.invariant.1 _ row _ held w.0.taken _
-          c.if-holds_face.found w.1.ensures (w.3 ∙ w.2.ensures),
-    ))
-    (λ w. (
-      omega arith,
-      other_next face args.table.now at.loop-i.i at.loop-i.found at.loop-i.invariant.1 _ row _ held
-          w.0.left c.if-holds_face.found w.1,
-    ))
-    c.if-holds_face.branch
+    elim c.if-holds_face.branch [
+      then-holds_face w ↦ (
+        omega arith,
+        held_next face args.table.now at.loop-i.i at.loop-i.found at.loop-i.invariant.1 _ row _ held w.if-holds_face.true _
+            c.if-holds_face.found w.apex_over.ensures (w.found-is ∙ w.with_row-found.ensures),
+      )
+    | else-holds_face w ↦ (
+        omega arith,
+        other_next face args.table.now at.loop-i.i at.loop-i.found at.loop-i.invariant.1 _ row _ held w.if-holds_face.false
+            c.if-holds_face.found w.found-is,
+      )
+    ]
 
 pub returns : goal.returns
 returns c =

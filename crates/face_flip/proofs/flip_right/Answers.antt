@@ -27,7 +27,9 @@ returns-then-found-eq0 c =
     let shared = c in
     let start = shared in
     let a = start.args in
-    is_10 a.block.now a.out.now a.x a.y a.z start.requires shared.share-found.result shared.share-found.ensures c.if-found-eq0.true
+    let both =
+    is_10 a.block.now a.out.now a.x a.y a.z start.requires shared.share-found.result shared.share-found.ensures c.if-found-eq0.true in
+    record { answer = both.0; bytes = both.1 }
 
 pub returns-then-found-eq1 : goal.returns-then-found-eq1
 returns-then-found-eq1 c =
@@ -35,8 +37,10 @@ returns-then-found-eq1 c =
     let shared = e1 in
     let start = shared in
     let a = start.args in
+    let both =
     is_11 a.block.now a.out.now a.x a.y a.z start.requires shared.share-found.result shared.share-found.ensures
-    e1.if-found-eq0.false c.if-found-eq1.true
+    e1.if-found-eq0.false c.if-found-eq1.true in
+    record { answer = both.0; bytes = both.1 }
 
 pub returns-then-found : goal.returns-then-found
 returns-then-found c =
@@ -45,8 +49,10 @@ returns-then-found c =
     let shared = e1 in
     let start = shared in
     let a = start.args in
+    let both =
     is_18 a.block.now a.out.now a.x a.y a.z start.requires shared.share-found.result shared.share-found.ensures e1.if-found-eq0.false
-    e2.if-found-eq1.false c.if-found.true
+    e2.if-found-eq1.false c.if-found.true in
+    record { answer = both.0; bytes = both.1 }
 
 pub returns-in_default : goal.returns-in_default
 returns-in_default c =
@@ -56,8 +62,10 @@ returns-in_default c =
     let shared = e3 in
     let start = e3 in
     let a = start.args in
+    let both =
     is_20 a.block.now a.out.now a.x a.y a.z start.requires shared.share-found.result shared.share-found.ensures e1.if-found-eq0.false
-    e2.if-found-eq1.false e3.if-found.false c.in_default.is
+    e2.if-found-eq1.false e3.if-found.false c.in_default.is in
+    record { answer = both.0; bytes = both.1 }
 
 pub mark_goes-requires : goal.mark_goes-requires
 mark_goes-requires c =
@@ -74,8 +82,10 @@ returns-then-mark_goes c =
     let shared = e3 in
     let start = e3 in
     let a = start.args in
+    let both =
     is_23 a.block.now a.out.now a.x a.y a.z start.requires shared.share-found.result shared.share-found.ensures e1.if-found-eq0.false
-    e2.if-found-eq1.false e3.if-found.false _ region.in-One.is _ asked.mark_goes.ensures c.if-mark_goes.true
+    e2.if-found-eq1.false e3.if-found.false _ region.in-One.is _ asked.mark_goes.ensures c.if-mark_goes.true in
+    record { answer = both.0; bytes = both.1 }
 
 pub keep_others-kept-requires : goal.keep_others-kept-requires
 keep_others-kept-requires c =
@@ -112,9 +122,11 @@ returns-then-kept-gt-MAX_ROWS c =
     let shared = e3 in
     let start = e3 in
     let a = start.args in
+    let both =
     is_14 a.block.now a.out.now a.x a.y a.z start.requires shared.share-found.result shared.share-found.ensures e1.if-found-eq0.false
     e2.if-found-eq1.false e3.if-found.false _ region.in-One.is _ marks.mark_goes.ensures
-    marks.if-mark_goes.false _ begun.begin.ensures _ _ keeps.keep_others-kept.ensures.0 keeps.keep_others-kept.ensures.1 c.if-kept-gt-MAX_ROWS.true
+    marks.if-mark_goes.false _ begun.begin.ensures _ _ keeps.keep_others-kept.ensures.0 keeps.keep_others-kept.ensures.1 c.if-kept-gt-MAX_ROWS.true in
+    record { answer = both.0; bytes = both.1 }
 
 pub put_three-requires : goal.put_three-requires
 put_three-requires c =
@@ -221,10 +233,12 @@ returns-then-not-keeps_mesh_rule c =
     let shared = e3 in
     let start = e3 in
     let a = start.args in
+    let both =
     is_15 a.block.now a.out.now a.x a.y a.z start.requires shared.share-found.result shared.share-found.ensures e1.if-found-eq0.false
     e2.if-found-eq1.false e3.if-found.false _ region.in-One.is _ marks.mark_goes.ensures
     marks.if-mark_goes.false _ begun.begin.ensures _ _ keeps.keep_others-kept.ensures.0 keeps.keep_others-kept.ensures.1 e5.if-kept-gt-MAX_ROWS.false least.least.result
-    least.least.ensures _ put.put_three.ensures _ worn.dress.ensures _ tested.keeps_mesh_rule.ensures (c.if-not-keeps_mesh_rule.true)
+    least.least.ensures _ put.put_three.ensures _ worn.dress.ensures _ tested.keeps_mesh_rule.ensures (c.if-not-keeps_mesh_rule.true) in
+    record { answer = both.0; bytes = both.1 }
 
 pub finish-requires : goal.finish-requires
 finish-requires c =
@@ -292,8 +306,10 @@ returns c =
     let shared = e3 in
     let start = e3 in
     let a = start.args in
+    let both =
     is_0 a.block.now a.out.now a.x a.y a.z start.requires shared.share-found.result shared.share-found.ensures e1.if-found-eq0.false
     e2.if-found-eq1.false e3.if-found.false _ region.in-One.is _ marks.mark_goes.ensures
     marks.if-mark_goes.false _ begun.begin.ensures _ _ keeps.keep_others-kept.ensures.0 keeps.keep_others-kept.ensures.1 e5.if-kept-gt-MAX_ROWS.false least.least.result
     least.least.ensures _ put.put_three.ensures _ worn.dress.ensures _ tested.keeps_mesh_rule.ensures (e6.if-not-keeps_mesh_rule.false)
-    (all_bytes a.block.now shared.type_inv.block) _ finished.finish.ensures _ copied.copy.ensures
+    (all_bytes a.block.now shared.type_inv.block) _ finished.finish.ensures _ copied.copy.ensures in
+    record { answer = both.0; bytes = both.1 }

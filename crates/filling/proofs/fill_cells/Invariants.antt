@@ -1,14 +1,10 @@
-use Prim.Native.Nat.{ℕ, ◌+◌, ◌-◌, ◌≤◌}
-use mathlib.Core.Logic.{⊎_elim}
-use mathlib.Core.Path.{◌≡◌, refl, ◌∙◌}
-use native.Mathlib.Omega.{arith}
+use Prim.Native.Nat.{◌+◌, ◌-◌, ◌≤◌}
+use mathlib.Core.Path.{◌≡◌}
 use lib.ListN.{take}
-use borrow.Author.Rules.{rules}
 use Rattle.ring.specs.Ring.{Site, m as size_of}
-use Rattle.cells.specs.Steps.{cell_at, cell_of}
-use Rattle.cells.proofs.CellPlaces.{cell_inside, cell_next, cell_turn}
+use Rattle.cells.specs.Steps.{cell_at}
 use Rattle.kept_faces.specs.Steps.{SiteRim}
-use Rattle.filling.proofs.CellFilled.{Upto, Whole, side_found, upto_start, upto_end, upto_smaller, upto_more, whole_more}
+use Rattle.filling.proofs.CellFilled.{Upto, Whole}
 use Rattle.filling.proofs.fill_cells.Given as goal
 
 abbrev pub invariant-loop-at : goal.invariant-loop-at

@@ -1,6 +1,5 @@
 -- `store` sets the four fields of one cell.
 use mathlib.Core.Path.{refl}
-use borrow.Author.Rules.{rules}
 use Rattle.filling.proofs.store.Goals as goal
 
 pub returns : goal.returns

@@ -32,7 +32,9 @@ pub returns-in_default : goal.returns-in_default
 returns-in_default c =
     let answered = c in
     let args = answered.args in
-    flip_blocked args.block.now args.out.now args.numbers.now _ _ answered.blocks_answer-opened.ensures c.in_default.is
+    let both =
+    flip_blocked args.block.now args.out.now args.numbers.now _ _ answered.blocks_answer-opened.ensures c.in_default.is in
+    record { answer = both.0; bytes = both.1 }
 
 pub bounds-numbers-0 : goal.bounds-numbers-0
 bounds-numbers-0 c = omega (arith, c.if-numbers-eq-TWO.true)
@@ -47,7 +49,9 @@ pub returns-then-numbers-eq-TWO : goal.returns-then-numbers-eq-TWO
 returns-then-numbers-eq-TWO c =
     let is-two = c in
     let k = is-two in
-    two_told (block_of k) (out_of k) (numbers_of k) is-two.if-numbers-eq-TWO.true c.flip_edge.ensures
+    let both =
+    two_told (block_of k) (out_of k) (numbers_of k) is-two.if-numbers-eq-TWO.true c.flip_edge.ensures in
+    record { answer = both.0; bytes = both.1 }
 
 pub bounds-numbers-0-then-numbers-eq-THREE : goal.bounds-numbers-0-then-numbers-eq-THREE
 bounds-numbers-0-then-numbers-eq-THREE c = omega (arith, c.if-numbers-eq-THREE.true)
@@ -65,10 +69,14 @@ pub returns-then-numbers-eq-THREE : goal.returns-then-numbers-eq-THREE
 returns-then-numbers-eq-THREE c =
     let is-three = c in
     let k = is-three in
-    three_told (block_of k) (out_of k) (numbers_of k) is-three.if-numbers-eq-THREE.true c.flip_face.ensures
+    let both =
+    three_told (block_of k) (out_of k) (numbers_of k) is-three.if-numbers-eq-THREE.true c.flip_face.ensures in
+    record { answer = both.0; bytes = both.1 }
 
 pub returns : goal.returns
 returns c =
     let k = c in
     let (block-opens, size) = opens k in
-    flip_21 (block_of k) (out_of k) (numbers_of k) block-opens size c.if-numbers-eq-TWO.false c.if-numbers-eq-THREE.false
+    let both =
+    flip_21 (block_of k) (out_of k) (numbers_of k) block-opens size c.if-numbers-eq-TWO.false c.if-numbers-eq-THREE.false in
+    record { answer = both.0; bytes = both.1 }

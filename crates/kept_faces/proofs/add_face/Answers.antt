@@ -5,8 +5,6 @@ use mathlib.Core.List.{List}
 use mathlib.Core.Path.{◌≡◌}
 use native.Mathlib.Omega.{arith}
 use lib.ListN.{get_or, length-set, take}
-use borrow.Author.Rules.{rules}
-use borrow.Author.Tests.{not-true, not-false}
 use Rattle.kept_faces.specs.Steps.{places, met_at, all_met}
 use Rattle.kept_faces.proofs.KeptFacesLookedUp.{passed_over, stored}
 use Rattle.kept_faces.proofs.add_face.Goals as goal

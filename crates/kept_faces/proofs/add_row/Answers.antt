@@ -3,7 +3,6 @@ use mathlib.Core.List.{◌++◌, append-nil}
 use mathlib.Core.Path.{sym, ap, ◌∙◌}
 use native.Mathlib.Omega.{arith}
 use lib.ListN.{take}
-use borrow.Author.Rules.{rules}
 use Rattle.mesh.specs.Mesh.{faces}
 use Rattle.kept_faces.proofs.KeptFacesLookedUp.{four, row_gone, row_kept}
 use Rattle.kept_faces.proofs.add_row.Goals as goal

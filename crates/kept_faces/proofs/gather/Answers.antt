@@ -1,14 +1,11 @@
 -- `gather` has the keys of the first i rows: of the faces whose numbers are all met, where `meet` met the rim.
-use Prim.Native.Nat.{◌≤◌, ◌-◌, ◌*◌}
 use mathlib.Core.List.{flat_map}
 use mathlib.Core.Path.{◌≡◌, refl, sym, ◌∙◌}
 use native.Mathlib.Omega.{arith}
-use lib.ListN.{length, take}
 use borrow.Author.Rules.{rules}
 use Rattle.lists.specs.Lists.{numbers_from, those}
 use Rattle.rows.specs.Rows.{rows_in}
-use Rattle.keys.specs.Steps.{most_keys, row_faces}
-use Rattle.kept_faces.specs.Steps.{keyed, kept_keys, kept_of}
+use Rattle.kept_faces.specs.Steps.{keyed}
 use Rattle.kept_faces.proofs.KeptFacesLookedUp.{kept_more}
 use Rattle.kept_faces.proofs.gather.Goals as goal
 

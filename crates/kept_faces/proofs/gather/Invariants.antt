@@ -1,14 +1,9 @@
 use Prim.Native.Nat.{◌≤◌, ◌-◌, ◌*◌}
-use mathlib.Core.List.{flat_map}
-use mathlib.Core.Path.{◌≡◌, refl, sym, ◌∙◌}
-use native.Mathlib.Omega.{arith}
+use mathlib.Core.Path.{◌≡◌}
 use lib.ListN.{length, take}
-use borrow.Author.Rules.{rules}
-use Rattle.lists.specs.Lists.{numbers_from, those}
 use Rattle.rows.specs.Rows.{rows_in}
 use Rattle.keys.specs.Steps.{most_keys, row_faces}
-use Rattle.kept_faces.specs.Steps.{keyed, kept_keys, kept_of}
-use Rattle.kept_faces.proofs.KeptFacesLookedUp.{kept_more}
+use Rattle.kept_faces.specs.Steps.{kept_keys, kept_of}
 use Rattle.kept_faces.proofs.gather.Given as goal
 
 abbrev pub invariant-loop-i : goal.invariant-loop-i

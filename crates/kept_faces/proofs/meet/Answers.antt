@@ -1,11 +1,8 @@
 -- `meet` has met a, b and the first i points of the ring.
-use Prim.Native.Nat.{ℕ, ◌≤◌, ◌<◌, ◌-◌}
+use Prim.Native.Nat.{◌<◌}
 use mathlib.Core.Bool.{true}
-use mathlib.Core.Path.{◌≡◌}
 use native.Mathlib.Omega.{arith}
-use lib.ListN.{length, get_or, set, length-set}
-use borrow.Author.Rules.{rules}
-use Rattle.kept_faces.specs.Steps.{places, met_at}
+use lib.ListN.{length, set, length-set}
 use Rattle.kept_faces.proofs.KeptFacesLookedUp.{just_met, still_met, one_more}
 use Rattle.kept_faces.proofs.meet.Goals as goal
 

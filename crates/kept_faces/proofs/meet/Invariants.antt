@@ -1,11 +1,8 @@
 use Prim.Native.Nat.{ℕ, ◌≤◌, ◌<◌, ◌-◌}
 use mathlib.Core.Bool.{true}
 use mathlib.Core.Path.{◌≡◌}
-use native.Mathlib.Omega.{arith}
-use lib.ListN.{length, get_or, set, length-set}
-use borrow.Author.Rules.{rules}
+use lib.ListN.{length, get_or}
 use Rattle.kept_faces.specs.Steps.{places, met_at}
-use Rattle.kept_faces.proofs.KeptFacesLookedUp.{just_met, still_met, one_more}
 use Rattle.kept_faces.proofs.meet.Given as goal
 
 abbrev pub invariant-loop-i : goal.invariant-loop-i

@@ -1,5 +1,4 @@
 -- `uses_across` looks up the face of a, then the face of b, if the links do not close.
-use borrow.Author.Rules.{rules}
 use Rattle.kept_faces.proofs.uses_across.Goals as goal
 
 pub returns-then-closed : goal.returns-then-closed

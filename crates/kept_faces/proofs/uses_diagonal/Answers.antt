@@ -1,6 +1,5 @@
 -- `uses_diagonal` looks up the face of a, then the face of b.
 use mathlib.Core.Path.{sym, ◌∙◌}
-use borrow.Author.Rules.{rules}
 use Rattle.kept_faces.proofs.uses_diagonal.Goals as goal
 
 pub returns-then-uses_either : goal.returns-then-uses_either

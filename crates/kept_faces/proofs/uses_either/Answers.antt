@@ -1,5 +1,4 @@
 -- `uses_either` looks up a face, then the face the other way round.
-use borrow.Author.Rules.{rules}
 use Rattle.kept_faces.proofs.uses_either.Goals as goal
 
 pub returns-then-among : goal.returns-then-among

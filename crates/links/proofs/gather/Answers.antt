@@ -1,16 +1,13 @@
 -- `gather` takes the rows in order, and adds the place, the link and the region of each that holds both ends.
-use Prim.Native.Nat.{◌≤◌, ◌-◌}
 use mathlib.Core.Path.{◌≡◌, refl, sym, ap, ◌∙◌}
 use native.Mathlib.Omega.{arith}
-use borrow.Author.Rules.{rules}
 use lib.ListN.{length, length-map}
 use Rattle.lists.specs.Lists.{those, numbers_from}
 use Rattle.lists.proofs.Tests.{is_yes}
 use Rattle.rows.specs.Rows.{rows_in, holds_edge}
-use Rattle.rows.specs.Steps.{regions_of}
 use Rattle.rows.proofs.RegionsRowByRow.{none_met}
-use Rattle.links.specs.Steps.{links_in, places_in, places_of}
-use Rattle.links.specs.Links.{link, links_of}
+use Rattle.links.specs.Steps.{links_in, places_in}
+use Rattle.links.specs.Links.{link}
 use Rattle.links.proofs.LinksRowByRow.{row_fits_lem, table_more, table_same, places_more, places_same, regions_more, regions_same}
 use Rattle.links.proofs.LinkArrays.{in_length}
 use Rattle.links.proofs.gather.Goals.{then-holds_edge, else-holds_edge}

@@ -1,18 +1,10 @@
 use Prim.Native.Nat.{◌≤◌, ◌-◌}
-use mathlib.Core.Path.{◌≡◌, refl, sym, ap, ◌∙◌}
-use mathlib.Core.Logic.{⊎_elim}
-use native.Mathlib.Omega.{arith}
-use borrow.Author.Rules.{rules}
-use lib.ListN.{length, length-map}
-use Rattle.lists.specs.Lists.{those, numbers_from}
-use Rattle.lists.proofs.Tests.{is_yes}
+use mathlib.Core.Path.{◌≡◌}
+use Rattle.lists.specs.Lists.{those}
 use Rattle.rows.specs.Rows.{rows_in, holds_edge}
 use Rattle.rows.specs.Steps.{regions_of}
-use Rattle.rows.proofs.RegionsRowByRow.{none_met}
 use Rattle.links.specs.Steps.{links_in, places_in, places_of}
-use Rattle.links.specs.Links.{link, links_of}
-use Rattle.links.proofs.LinksRowByRow.{row_fits_lem, table_more, table_same, places_more, places_same, regions_more, regions_same}
-use Rattle.links.proofs.LinkArrays.{in_length}
+use Rattle.links.specs.Links.{links_of}
 use Rattle.links.proofs.gather.Given as goal
 
 abbrev pub invariant-loop-i : goal.invariant-loop-i

@@ -1,6 +1,5 @@
 -- `joined` goes by the cases of the definition.
 use mathlib.Core.Path.{◌∙◌}
-use borrow.Author.Rules.{rules}
 use borrow.Author.Tests.{eq-eqb, ne_eqb}
 use Rattle.links.proofs.joined.Goals as goal
 

@@ -13,7 +13,6 @@ use Rattle.rows.proofs.EvenMoves.{even_i, holds_cases}
 use Rattle.links.specs.Links.{link}
 use Rattle.links.specs.Steps.{LinkedRow, following}
 use Rattle.links.proofs.LinksUnderRule.{link_following}
-use borrow.Author.Rules.{rules}
 use Rattle.links.proofs.link_of.Goals as goal
 
 opposite : {a b : ℕ} {row t : Row} → LinkedRow a b row → Memᴰ t (evenly row) → a ≡ t.p

@@ -15,85 +15,74 @@ use Rattle.removal.proofs.RemovalAnswers.{refusal_gives, refusal_keeps, front_nu
 use Rattle.removal.proofs.RemovalWritten.{done_bytes}
 use Rattle.removal.proofs.remove.Goals as goal
 
--- the block opens, and the output has its length
-right : (k : goal.In_default) → let args = k.args in
-    (open_answer args.block.now ≡ 0) × (length args.out.now ≡ block_bytes)
-right k =
-    let answered = k in
-    let args = answered.args in
-    opened args.block.now args.out.now _ answered.blocks_answer-opened.ensures k.in_default.is
-
--- the apexes are whole
-whole : (k : goal.After-attempt-tried) → length k.attempt-tried.result.apexes ≡ cells
-whole k = search rules
-
 pub returns-in-Refused : goal.returns-in-Refused
 returns-in-Refused c =
-    let answered = c in
-    let args = answered.args in
-    let number = front_number args.block.now args.out.now args.e args.f _ answered.blocks_answer-opened.ensures _
-    c.in-Refused.is in (
-      c.refused.ensures ∙ refusal_gives args.block.now args.out.now args.e args.f _ number,
-      refusal_keeps args.block.now args.out.now args.e args.f _ number,
-    )
+    let args = c.args in
+    let number = front_number args.block.now args.out.now args.e args.f _ c.blocks_answer-opened.ensures _
+    c.in-Refused.is in
+    record {
+      gives =
+          c.refused.ensures ∙ refusal_gives args.block.now args.out.now args.e args.f _ number;
+      bytes =
+          refusal_keeps args.block.now args.out.now args.e args.f _ number;
+    }
 
 pub attempt-tried-requires : goal.attempt-tried-requires
-attempt-tried-requires c = (right c).0
+attempt-tried-requires c =
+    let right = opened c.args.block.now c.args.out.now _ c.blocks_answer-opened.ensures c.in_default.is in
+    right.0
 
 pub returns-in-Refused-answer : goal.returns-in-Refused-answer
 returns-in-Refused-answer c =
-    let tried = c in
-    let k = tried in
-    let args = k.args in
-    let number = tried_number args.block.now args.out.now args.e args.f (right k).0 (right k).1 _ tried.attempt-tried.ensures _
-    c.in-Refused-answer.is in (
-      c.refused-in-Refused-answer.ensures ∙ refusal_gives args.block.now args.out.now args.e args.f _ number,
-      refusal_keeps args.block.now args.out.now args.e args.f _ number,
-    )
+    let args = c.args in
+    let right = opened args.block.now args.out.now _ c.blocks_answer-opened.ensures c.in_default.is in
+    let number = tried_number args.block.now args.out.now args.e args.f right.0 right.1 _ c.attempt-tried.ensures _
+    c.in-Refused-answer.is in
+    record {
+      gives =
+          c.refused-in-Refused-answer.ensures ∙ refusal_gives args.block.now args.out.now args.e args.f _ number;
+      bytes =
+          refusal_keeps args.block.now args.out.now args.e args.f _ number;
+    }
 
 pub begin-requires : goal.begin-requires
-begin-requires c = right c
+begin-requires c =
+    let right = opened c.args.block.now c.args.out.now _ c.blocks_answer-opened.ensures c.in_default.is in
+    right
 
 pub replace-after-requires : goal.replace-after-requires
 replace-after-requires c =
-    let begun = c in
-    let done = begun in
-    let tried = done in
-    let k = tried in
-    let args = k.args in
-    let size = begun_length args.block.now (right k).0 args.out.now _ (right k).1 begun.begin.ensures in (
-      (
-        (right k).0,
-        replaceable args.block.now args.out.now args.e args.f (right k).0 (right k).1 _ tried.attempt-tried.ensures
-            done.in_default-answer.is,
-      ),
-      (whole tried, omega arith, begun_version args.block.now (right k).0 args.out.now _ (right k).1 begun.begin.ensures),
-    )
+    let args = c.args in
+    let right = opened args.block.now args.out.now _ c.blocks_answer-opened.ensures c.in_default.is in
+    let size = begun_length args.block.now right.0 args.out.now _ right.1 c.begin.ensures in
+    let whole : length c.attempt-tried.result.apexes ≡ cells = search rules in
+    record {
+      block_value = (
+        right.0,
+        replaceable args.block.now args.out.now args.e args.f right.0 right.1 _ c.attempt-tried.ensures
+            c.in_default-answer.is,
+      );
+      apexes_len = (whole, omega arith, begun_version args.block.now right.0 args.out.now _ right.1 c.begin.ensures);
+    }
 
 pub finish-requires : goal.finish-requires
 finish-requires c =
-    let replaced = c in
-    let begun = replaced in
-    let done = begun in
-    let tried = done in
-    let k = tried in
-    let args = k.args in
-    let given = replaceable args.block.now args.out.now args.e args.f (right k).0 (right k).1 _ tried.attempt-tried.ensures
-    done.in_default-answer.is in
-    (omega (arith, c.out-2-1.given, c.out-1.given, (right k).1), omega (arith, replaced.replace-after.ensures.number, few_afterwards args.block.now args.e args.f given))
+    let args = c.args in
+    let right = opened args.block.now args.out.now _ c.blocks_answer-opened.ensures c.in_default.is in
+    let given = replaceable args.block.now args.out.now args.e args.f right.0 right.1 _ c.attempt-tried.ensures
+    c.in_default-answer.is in
+    (omega (arith, c.out-2-1.given, c.out-1.given, right.1), omega (arith, c.replace-after.ensures.number, few_afterwards args.block.now args.e args.f given))
 
 pub returns : goal.returns
 returns c =
-    let finished = c in
-    let replaced = finished in
-    let begun = replaced in
-    let done = begun in
-    let tried = done in
-    let k = tried in
-    let args = k.args in (
-      done_gives args.block.now args.out.now args.e args.f (right k).0 (right k).1 _ tried.attempt-tried.ensures
-          done.in_default-answer.is _ _ _ replaced.replace-after.ensures,
-      done_bytes args.block.now args.out.now args.e args.f (right k).0 (right k).1 _ tried.attempt-tried.ensures
-          done.in_default-answer.is _ _ _ replaced.replace-after.ensures
-          (all_bytes args.block.now k.type_inv.block) begun.begin.ensures _ finished.finish.ensures,
-    )
+    let args = c.args in
+    let right = opened args.block.now args.out.now _ c.blocks_answer-opened.ensures c.in_default.is in
+    record {
+      gives =
+          done_gives args.block.now args.out.now args.e args.f right.0 right.1 _ c.attempt-tried.ensures
+          c.in_default-answer.is _ _ _ c.replace-after.ensures;
+      bytes =
+          done_bytes args.block.now args.out.now args.e args.f right.0 right.1 _ c.attempt-tried.ensures
+          c.in_default-answer.is _ _ _ c.replace-after.ensures
+          (all_bytes args.block.now c.type_inv.block) c.begin.ensures _ c.finish.ensures;
+    }

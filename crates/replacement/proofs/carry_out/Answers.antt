@@ -16,12 +16,15 @@ pub expand-end-requires : goal.expand-end-requires
 expand-end-requires c =
     let kept = c in
     let start = kept in
-    let args = start.args in (
-      expand_ready args.coordinates.now args.count args.table.now args.n args.a args.b start.requires.ringed start.requires.carriable _
-          kept.keep_others-kept.ensures.0 _ kept.keep_others-kept.ensures.1,
-      expand_room args.coordinates.now args.count args.table.now args.n args.a args.b start.requires.ringed start.requires.carriable _
-          kept.keep_others-kept.ensures.0 _ kept.keep_others-kept.ensures.1,
-    )
+    let args = start.args in
+    record {
+      apexes_len =
+          expand_ready args.coordinates.now args.count args.table.now args.n args.a args.b start.requires.ringed start.requires.carriable _
+          kept.keep_others-kept.ensures.0 _ kept.keep_others-kept.ensures.1;
+      i_in_bounds =
+          expand_room args.coordinates.now args.count args.table.now args.n args.a args.b start.requires.ringed start.requires.carriable _
+          kept.keep_others-kept.ensures.0 _ kept.keep_others-kept.ensures.1;
+    }
 
 pub dress-requires : goal.dress-requires
 dress-requires c =
@@ -30,10 +33,11 @@ dress-requires c =
     let start = kept in
     let args = start.args in
     let (from, room) = dress_room args.coordinates.now args.count args.table.now args.n args.a args.b start.requires.ringed
-    start.requires.carriable _ kept.keep_others-kept.ensures.0 _ kept.keep_others-kept.ensures.1 _ _ expanded.expand-end.ensures.1 in (
-      (start.requires.ringed.ready.rows, omega (arith, start.requires.ringed.ready.few_rows), start.requires.ringed.agrees),
-      (from, room),
-    )
+    start.requires.carriable _ kept.keep_others-kept.ensures.0 _ kept.keep_others-kept.ensures.1 _ _ expanded.expand-end.ensures.1 in
+    record {
+      n_in_bounds = (start.requires.ringed.ready.rows, omega (arith, start.requires.ringed.ready.few_rows), start.requires.ringed.agrees);
+      from_le_end = (from, room);
+    }
 
 pub returns : goal.returns
 returns c =

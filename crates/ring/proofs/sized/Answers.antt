@@ -1,6 +1,5 @@
 -- `sized` tests the length of the points that the walk went by.
 use mathlib.Core.Path.{◌∙◌}
-use borrow.Author.Rules.{rules}
 use borrow.Author.Tests.{lt-ltb, le-ltb}
 use lib.Seq.{length-take-le}
 use Rattle.ring.specs.Ring.{min_ring, max_ring}

@@ -1,11 +1,10 @@
 -- `enters` looks at the ends in order: v stands among all of them as it stands among those that are left.
-use Prim.Native.Nat.{◌≤◌, ◌-◌}
-use mathlib.Core.Path.{◌≡◌, refl, sym, ap, ◌∙◌}
+use mathlib.Core.Path.{refl, sym, ap, ◌∙◌}
 use native.Mathlib.Numerals.{add-one}
 use native.Mathlib.Omega.{arith}
 use borrow.Author.Tests.{eq-eqb, ne_eqb}
 use lib.Dec.{eqb}
-use lib.ListN.{drop, drop_of_length-le}
+use lib.ListN.{drop_of_length-le}
 use Rattle.lists.specs.Lists.{any, has}
 use Rattle.lists.proofs.Lists.{any_here, any_later}
 use Rattle.links.specs.Links.{ends}

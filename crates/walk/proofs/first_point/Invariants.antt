@@ -1,18 +1,9 @@
 use Prim.Native.Nat.{ℕ, ◌≤◌, ◌<◌, ◌-◌}
 use mathlib.Core.List.{Memᴰ}
-use mathlib.Core.Path.{◌≡◌, refl, sym, ◌∙◌, subst}
-use borrow.Author.Count.{below_more}
-use borrow.Author.Tests.{not-true, not-false}
-use native.Mathlib.Omega.{arith}
-use lib.Dec.{T}
+use mathlib.Core.Path.{◌≡◌}
 use lib.ListN.{get_or}
-use Rattle.lists.proofs.Tests.{is_yes}
-use Rattle.lists.proofs.Numbers.{has_i, has_e}
-use Rattle.lists.proofs.Places.{at_in, in_at}
-use Rattle.links.specs.Links.{starts, ends}
+use Rattle.links.specs.Links.{ends}
 use Rattle.links.specs.Steps.{links_in}
-use Rattle.links.proofs.LinkArrays.{starts_length, starts_at}
-use Rattle.walk.proofs.FirstPoint.{starts_head, starts_smallest}
 use Rattle.walk.proofs.first_point.Given as goal
 
 abbrev pub invariant-loop-i : goal.invariant-loop-i

@@ -1,7 +1,7 @@
 -- `smallest_start` keeps the smallest of the starts seen: it is one of them, and none of them is below it.
-use Prim.Native.Nat.{ℕ, zero, suc, ◌≤◌, ◌<◌, ◌-◌}
+use Prim.Native.Nat.{ℕ, zero, suc, ◌≤◌, ◌<◌}
 use mathlib.Core.List.{List, Memᴰ}
-use mathlib.Core.Path.{◌≡◌, refl, sym, ◌∙◌, subst}
+use mathlib.Core.Path.{refl, sym, ◌∙◌, subst}
 use borrow.Author.Count.{below_more}
 use native.Mathlib.Omega.{arith}
 use lib.ListN.{get_or}

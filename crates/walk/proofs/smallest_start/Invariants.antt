@@ -1,15 +1,6 @@
-use Prim.Native.Nat.{ℕ, zero, suc, ◌≤◌, ◌<◌, ◌-◌}
-use mathlib.Core.List.{List, Memᴰ}
-use mathlib.Core.Logic.{⊎_elim}
-use mathlib.Core.Path.{◌≡◌, refl, sym, ◌∙◌, subst}
-use borrow.Author.Count.{below_more}
-use native.Mathlib.Omega.{arith}
+use Prim.Native.Nat.{ℕ, ◌≤◌, ◌<◌, ◌-◌}
+use mathlib.Core.Path.{◌≡◌}
 use lib.ListN.{get_or}
-use Rattle.lists.proofs.Places.{at_in, in_at}
-use Rattle.links.specs.Links.{starts}
-use Rattle.links.specs.Steps.{links_in}
-use Rattle.links.proofs.LinkArrays.{starts_length, starts_at}
-use Rattle.walk.proofs.TheSmallest.{smallest_is}
 use Rattle.walk.proofs.smallest_start.Given as goal
 
 abbrev pub invariant-loop-i : goal.invariant-loop-i

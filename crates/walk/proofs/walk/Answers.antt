@@ -7,9 +7,8 @@ use mathlib.Core.Option.{none, some}
 use mathlib.Core.Path.{◌≡◌, refl, sym, ap, ◌∙◌, subst}
 use native.Mathlib.Numerals.{add-one}
 use native.Mathlib.Omega.{arith}
-use borrow.Author.Rules.{rules}
 use lib.Dec.{T}
-use lib.ListN.{length, take, set, drop, length-set, drop_of_length-le}
+use lib.ListN.{length, take, set, length-set, drop_of_length-le}
 use Rattle.links.specs.Links.{Link, next}
 use Rattle.walk.specs.Walk.{walk, circle, follow}
 use Rattle.links.specs.Steps.{links_in}

@@ -1,21 +1,11 @@
-use Prim.Native.Nat.{ℕ, ◌+◌, ◌≤◌, ◌-◌}
-use mathlib.Core.List.{List, ◌++◌}
-use mathlib.Core.Logic.{⊎_elim}
-use mathlib.Core.Option.{none, some}
-use mathlib.Core.Path.{◌≡◌, refl, sym, ap, ◌∙◌, subst}
-use native.Mathlib.Numerals.{add-one}
-use native.Mathlib.Omega.{arith}
-use borrow.Author.Rules.{rules}
-use lib.Dec.{T}
-use lib.ListN.{length, take, set, drop, length-set, drop_of_length-le}
-use Rattle.links.specs.Links.{Link, next}
+use Prim.Native.Nat.{◌≤◌, ◌-◌}
+use mathlib.Core.List.{◌++◌}
+use mathlib.Core.Path.{◌≡◌}
+use lib.ListN.{length, take, drop}
+use Rattle.links.specs.Links.{next}
 use Rattle.walk.specs.Walk.{walk, circle, follow}
 use Rattle.links.specs.Steps.{links_in}
-use Rattle.walk.proofs.WalkStepwise.{onto, onto_none, walk_closes, walk_goes, walk_stops, walk_spent}
-use Rattle.links.proofs.NextLink.{next_here, next_later}
-use Rattle.walk.proofs.WalkStepwise.{follow_goes, follow_ends, follow_spent}
-use Rattle.links.proofs.LinkArrays.{in_length, in_drop}
-use Rattle.links.proofs.LinksByPlace.{place_inside, place_linked, place_link}
+use Rattle.walk.proofs.WalkStepwise.{onto}
 use Rattle.walk.proofs.walk.Given as goal
 
 abbrev pub invariant-loop-i : goal.invariant-loop-i
