@@ -9,6 +9,9 @@ mod printing;
 
 use counts::Counts;
 use records::{ANSWER_AT, CALL_AT, RECORD_BYTES};
+use std::fs::File;
+use std::io;
+use std::io::Read;
 
 // The most records that are read: a proved loop has to end, and nothing says that a file does.
 const MOST_CASES: usize = 65536;
@@ -23,13 +26,13 @@ fn with_record(counts: Counts, stored: &[u8]) -> Counts
 }
 
 // Every record of the file, counted one after another.
-fn run_all(fd: i32) -> Counts
+fn run_all<R: Read>(file: &mut R) -> Counts
     ensures { Counted result }
 {
     let mut counts = counts::no_cases();
     let mut stored = [0u8; RECORD_BYTES];
     for _ in 0..MOST_CASES {
-        if io::read_full(fd, &mut stored) < RECORD_BYTES {
+        if streams::read_full(file, &mut stored) < RECORD_BYTES {
             break;
         }
         counts = with_record(counts, &stored);
@@ -37,13 +40,7 @@ fn run_all(fd: i32) -> Counts
     counts
 }
 
-fn main() {
-    let path = b"cases";
-    let fd = os::open_read(path);
-    if fd < 0 {
-        os::fail(path);
-        return;
-    }
-    printing::print(run_all(fd));
-    libc::close(fd);
+fn main(rt: HostRuntime) -> io::Result<()> {
+    let mut file = File::open(&rt, "cases")?;
+    printing::print(&rt, run_all(&mut file))
 }

@@ -32,8 +32,7 @@ at-record s filled m n h p q e =
 
 pub slice_bounds-call_agrees-end-2 : goal.slice_bounds-call_agrees-end-2
 slice_bounds-call_agrees-end-2 c =
-    let filled = c in
-    simp length-take (omega (arith, whole filled.filled-out.ensures, filled.length_at-n.ensures))
+    simp length-take (omega (arith, whole c.filled-out.ensures, c.length_at-n.ensures))
 
 pub call_agrees-requires : goal.call_agrees-requires
 call_agrees-requires c = (search rules, simp length-take (omega (arith, whole c.filled-out.ensures)))

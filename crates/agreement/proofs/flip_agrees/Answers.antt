@@ -18,34 +18,30 @@ slice_bounds-flip-end c =
 pub returns-then-not-answer_is : goal.returns-then-not-answer_is
 unfolding flip_agrees
 returns-then-not-answer_is c =
-    let k = c in
-    let out = k in
-    let a = out.args in
+    let a = c.args in
     let s = a.stored.now in
-    let numbers = out.numbers-given.ensures in
-    let count = out.count-n.ensures in
+    let numbers = c.numbers-given.ensures in
+    let count = c.count-n.ensures in
     other_answer
     (flip_answer a.input.now a.out.now (numbers_in s))
     _
-    k.answer_is.ensures
-    (at_numbers s (λ l. answer_of (flip_answer a.input.now a.out.now l)) out.flip-answer.ensures.0 count numbers)
+    c.answer_is.ensures
+    (at_numbers s (λ l. answer_of (flip_answer a.input.now a.out.now l)) c.flip-answer.ensures.0 count numbers)
     _
     c.if-not-answer_is.true-raw
 
 pub returns : goal.returns
 unfolding flip_agrees
 returns c =
-    let k = c in
-    let out = k in
-    let a = out.args in
+    let a = c.args in
     let s = a.stored.now in
-    let numbers = out.numbers-given.ensures in
-    let count = out.count-n.ensures in
-    let bytes = at_numbers s (flip_bytes a.input.now a.out.now) out.flip-answer.ensures.1 count numbers in
+    let numbers = c.numbers-given.ensures in
+    let count = c.count-n.ensures in
+    let bytes = at_numbers s (flip_bytes a.input.now a.out.now) c.flip-answer.ensures.1 count numbers in
     same_answer
     (flip_answer a.input.now a.out.now (numbers_in s))
     _
-    k.answer_is.ensures
-    (at_numbers s (λ l. answer_of (flip_answer a.input.now a.out.now l)) out.flip-answer.ensures.0 count numbers)
+    c.answer_is.ensures
+    (at_numbers s (λ l. answer_of (flip_answer a.input.now a.out.now l)) c.flip-answer.ensures.0 count numbers)
     c.if-not-answer_is.false-raw
     (c.output_is.ensures ∙ ap (λ l. output_is l s) bytes)

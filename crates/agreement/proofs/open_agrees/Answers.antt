@@ -10,13 +10,12 @@ use Rattle.agreement.proofs.open_agrees.Goals as goal
 pub returns-then-not-answer_is : goal.returns-then-not-answer_is
 unfolding open_agrees open_gives
 returns-then-not-answer_is c =
-    let opened = c in
-    let input = opened.args.input.now in
+    let input = c.args.input.now in
     other_answer
     (open_answer input)
     _
     c.answer_is.ensures
-    (ap (λ o. o.answer) opened.open-opened.ensures)
+    (ap (λ o. o.answer) c.open-opened.ensures)
     _
     c.if-not-answer_is.true-raw
 
@@ -24,12 +23,11 @@ pub returns : goal.returns
 unfolding open_agrees open_gives
 returns c =
     let a = c.args in
-    let k = c in
-    let opened = k.open-opened.ensures in
+    let opened = c.open-opened.ensures in
     same_answer
     (open_answer a.input.now)
     _
-    k.answer_is.ensures
+    c.answer_is.ensures
     (ap (λ o. o.answer) opened)
     c.if-not-answer_is.false-raw
     (c.fields_are.ensures ∙ ap (λ o. fields_are o.fields a.stored.now) opened)

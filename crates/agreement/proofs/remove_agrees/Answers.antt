@@ -11,43 +11,37 @@ use Rattle.agreement.proofs.remove_agrees.Goals as goal
 pub returns-then-not-removal_is : goal.returns-then-not-removal_is
 unfolding remove_agrees
 returns-then-not-removal_is c =
-    let r = c in
-    let call = r in
-    let a = call.args in
+    let a = c.args in
     let s = a.stored.now in
-    let e = call.number.ensures in
-    let f = call.number-2.ensures in
-    let gives = at_two (remove_gives a.input.now a.out.now) call.remove-removed.ensures.0 e f in
-    let removal = r.removal_is.ensures ∙ ap (λ g. removal_is g.removal s) gives in
+    let e = c.number.ensures in
+    let f = c.number-2.ensures in
+    let gives = at_two (remove_gives a.input.now a.out.now) c.remove-removed.ensures.0 e f in
+    let removal = c.removal_is.ensures ∙ ap (λ g. removal_is g.removal s) gives in
     fails _ (failed removal c.if-not-removal_is.true-raw)
 
 pub returns-then-not-ring_is : goal.returns-then-not-ring_is
 unfolding remove_agrees
 returns-then-not-ring_is c =
-    let r = c in
-    let call = r in
-    let a = call.args in
+    let a = c.args in
     let s = a.stored.now in
-    let e = call.number.ensures in
-    let f = call.number-2.ensures in
-    let gives = at_two (remove_gives a.input.now a.out.now) call.remove-removed.ensures.0 e f in
-    let removal = r.removal_is.ensures ∙ ap (λ g. removal_is g.removal s) gives in
+    let e = c.number.ensures in
+    let f = c.number-2.ensures in
+    let gives = at_two (remove_gives a.input.now a.out.now) c.remove-removed.ensures.0 e f in
+    let removal = c.removal_is.ensures ∙ ap (λ g. removal_is g.removal s) gives in
     let ring = c.ring_is.ensures ∙ ap (λ g. ring_is g.ring s) gives in
     fails _ (failed ring c.if-not-ring_is.true-raw) ∙ passes (passed removal c.if-not-removal_is.false-raw)
 
 pub returns : goal.returns
 unfolding remove_agrees
 returns c =
-    let r = c in
-    let call = r in
-    let a = call.args in
+    let a = c.args in
     let s = a.stored.now in
-    let e = call.number.ensures in
-    let f = call.number-2.ensures in
-    let gives = at_two (remove_gives a.input.now a.out.now) call.remove-removed.ensures.0 e f in
-    let removal = r.removal_is.ensures ∙ ap (λ g. removal_is g.removal s) gives in
+    let e = c.number.ensures in
+    let f = c.number-2.ensures in
+    let gives = at_two (remove_gives a.input.now a.out.now) c.remove-removed.ensures.0 e f in
+    let removal = c.removal_is.ensures ∙ ap (λ g. removal_is g.removal s) gives in
     let ring = c.ring_is.ensures ∙ ap (λ g. ring_is g.ring s) gives in
-    let bytes = at_two (remove_bytes a.input.now a.out.now) call.remove-removed.ensures.1 e f in
+    let bytes = at_two (remove_bytes a.input.now a.out.now) c.remove-removed.ensures.1 e f in
     c.output_is.ensures
     ∙ ap (λ out. output_is out s) bytes
     ∙ passes (passed ring c.if-not-ring_is.false-raw)

@@ -11,13 +11,11 @@ pub returns-then-not-answer_is : goal.returns-then-not-answer_is
 unfolding seal_agrees
 returns-then-not-answer_is c =
     let a = c.args in
-    let k = c in
-    let out = k in
     other_answer
     (seal_answer a.input.now a.out.now)
     _
-    k.answer_is.ensures
-    out.seal-answer.ensures.0
+    c.answer_is.ensures
+    c.seal-answer.ensures.0
     _
     c.if-not-answer_is.true-raw
 
@@ -25,12 +23,10 @@ pub returns : goal.returns
 unfolding seal_agrees
 returns c =
     let a = c.args in
-    let k = c in
-    let out = k in
     same_answer
     (seal_answer a.input.now a.out.now)
     _
-    k.answer_is.ensures
-    out.seal-answer.ensures.0
+    c.answer_is.ensures
+    c.seal-answer.ensures.0
     c.if-not-answer_is.false-raw
-    (c.output_is.ensures ∙ ap (λ bytes. output_is bytes a.stored.now) out.seal-answer.ensures.1)
+    (c.output_is.ensures ∙ ap (λ bytes. output_is bytes a.stored.now) c.seal-answer.ensures.1)

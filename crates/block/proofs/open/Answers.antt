@@ -31,19 +31,16 @@ module _ (block : List ℕ) (answer : Answer) where
 
 pub returns-in_default : goal.returns-in_default
 returns-in_default c =
-    let opened = c in
-    given-none opened.args.block.now _ _ _ opened.opening-answer.ensures
+    given-none c.args.block.now _ _ _ c.opening-answer.ensures
     c.in_default.is c.no_fields.ensures
 
 pub fields_of-requires : goal.fields_of-requires
 fields_of-requires c =
-    let opened = c in
-    let block = opened.args.block.now in
-    let size = (right_block block (done block _ opened.opening-answer.ensures c.in-Done.is)).size in
+    let block = c.args.block.now in
+    let size = (right_block block (done block _ c.opening-answer.ensures c.in-Done.is)).size in
     omega (arith, size)
 
 pub returns : goal.returns
 returns c =
-    let opened = c in
-    given-fields opened.args.block.now _ _ opened.opening-answer.ensures
+    given-fields c.args.block.now _ _ c.opening-answer.ensures
     c.in-Done.is c.fields_of.ensures

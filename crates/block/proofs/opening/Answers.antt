@@ -10,13 +10,10 @@ returns-then-block-ne-BLOCK_BYTES c = ap answer_of (sym (open_1 c.args.block.now
 
 pub returns-then-sum_wrong : goal.returns-then-sum_wrong
 returns-then-sum_wrong c =
-    let e1 = c in
-    ap answer_of (sym (open_2 e1.args.block.now e1.if-block-ne-BLOCK_BYTES.false (sym c.sum_wrong.ensures ∙ c.if-sum_wrong.true)))
+    ap answer_of (sym (open_2 c.args.block.now c.if-block-ne-BLOCK_BYTES.false (sym c.sum_wrong.ensures ∙ c.if-sum_wrong.true)))
 
 pub returns : goal.returns
 returns c =
-    let e2 = c in
-    let e1 = e2 in
     c.body_answer.ensures
-    ∙ ap answer_of (sym (open_body e1.args.block.now e1.if-block-ne-BLOCK_BYTES.false
-    (sym e2.sum_wrong.ensures ∙ e2.if-sum_wrong.false)))
+    ∙ ap answer_of (sym (open_body c.args.block.now c.if-block-ne-BLOCK_BYTES.false
+    (sym c.sum_wrong.ensures ∙ c.if-sum_wrong.false)))

@@ -51,33 +51,23 @@ returns-then-body-ne-BODY_BYTES c =
 
 pub returns-then-out-ne-BLOCK_BYTES : goal.returns-then-out-ne-BLOCK_BYTES
 returns-then-out-ne-BLOCK_BYTES c =
-    let e1 = c in
-    let a = e1.args in
+    let a = c.args in
     let both =
-    refused-1 a.body.now a.out.now (seal_1_out a.body.now a.out.now e1.if-body-ne-BODY_BYTES.false c.if-out-ne-BLOCK_BYTES.true) in
+    refused-1 a.body.now a.out.now (seal_1_out a.body.now a.out.now c.if-body-ne-BODY_BYTES.false c.if-out-ne-BLOCK_BYTES.true) in
     record { answer = both.0; bytes = both.1 }
 
 pub returns-in_default : goal.returns-in_default
 returns-in_default c =
-    let answered = c in
-    let e2 = answered in
-    let e1 = e2 in
-    let a = e1.args in
+    let a = c.args in
     let both =
-    refused a.body.now a.out.now _ _ e1.if-body-ne-BODY_BYTES.false e2.if-out-ne-BLOCK_BYTES.false answered.body_answer-checked.ensures c.in_default.is in
+    refused a.body.now a.out.now _ _ c.if-body-ne-BODY_BYTES.false c.if-out-ne-BLOCK_BYTES.false c.body_answer-checked.ensures c.in_default.is in
     record { answer = both.0; bytes = both.1 }
 
 pub returns : goal.returns
 returns c =
-    let stamped = c in
-    let copied = stamped in
-    let told = copied in
-    let answered = told in
-    let e2 = answered in
-    let e1 = e2 in
-    let a = e1.args in
+    let a = c.args in
     let both =
-    written_out a.body.now a.out.now _ _ _ e1.if-body-ne-BODY_BYTES.false e2.if-out-ne-BLOCK_BYTES.false answered.body_answer-checked.ensures
-    told.in-Done.is
-    copied.copy.ensures stamped.stamp.ensures in
+    written_out a.body.now a.out.now _ _ _ c.if-body-ne-BODY_BYTES.false c.if-out-ne-BLOCK_BYTES.false c.body_answer-checked.ensures
+    c.in-Done.is
+    c.copy.ensures c.stamp.ensures in
     record { answer = both.0; bytes = both.1 }

@@ -22,92 +22,65 @@ overflow_cast-block c = omega (arith, c.type_inv.block 1)
 
 pub returns-then-block-gt-MAX_POINTS : goal.returns-then-block-gt-MAX_POINTS
 returns-then-block-gt-MAX_POINTS c =
-    let e1 = c in
-    refused_4_points e1.args.block.now (told-yes e1.is_version.result e1.is_version.ensures e1.if-not-is_version.false-raw) c.if-block-gt-MAX_POINTS.true
+    refused_4_points c.args.block.now (told-yes c.is_version.result c.is_version.ensures c.if-not-is_version.false-raw) c.if-block-gt-MAX_POINTS.true
 
 pub overflow_cast-block-2 : goal.overflow_cast-block-2
 overflow_cast-block-2 c = omega (arith, c.type_inv.block 2)
 
 pub returns-then-block-gt-MAX_ROWS : goal.returns-then-block-gt-MAX_ROWS
 returns-then-block-gt-MAX_ROWS c =
-    let e2 = c in
-    let e1 = e2 in
-    refused_4_rows e1.args.block.now (told-yes e1.is_version.result e1.is_version.ensures e1.if-not-is_version.false-raw) e2.if-block-gt-MAX_POINTS.false c.if-block-gt-MAX_ROWS.true
+    refused_4_rows c.args.block.now (told-yes c.is_version.result c.is_version.ensures c.if-not-is_version.false-raw) c.if-block-gt-MAX_POINTS.false c.if-block-gt-MAX_ROWS.true
 
 pub returns-then-zero_missing : goal.returns-then-zero_missing
 returns-then-zero_missing c =
-    let e3 = c in
-    let e2 = e3 in
-    let e1 = e2 in
     refused_5
-    e1.args.block.now
-    (told-yes e1.is_version.result e1.is_version.ensures e1.if-not-is_version.false-raw)
-    e2.if-block-gt-MAX_POINTS.false
-    e3.if-block-gt-MAX_ROWS.false
+    c.args.block.now
+    (told-yes c.is_version.result c.is_version.ensures c.if-not-is_version.false-raw)
+    c.if-block-gt-MAX_POINTS.false
+    c.if-block-gt-MAX_ROWS.false
     (sym c.zero_missing.ensures ∙ c.if-zero_missing.true)
 
 pub returns-then-number_wrong : goal.returns-then-number_wrong
 returns-then-number_wrong c =
-    let e4 = c in
-    let e3 = e4 in
-    let e2 = e3 in
-    let e1 = e2 in
     refused_7
-    e1.args.block.now
-    (told-yes e1.is_version.result e1.is_version.ensures e1.if-not-is_version.false-raw)
-    e2.if-block-gt-MAX_POINTS.false
-    e3.if-block-gt-MAX_ROWS.false
-    (sym e4.zero_missing.ensures ∙ e4.if-zero_missing.false)
+    c.args.block.now
+    (told-yes c.is_version.result c.is_version.ensures c.if-not-is_version.false-raw)
+    c.if-block-gt-MAX_POINTS.false
+    c.if-block-gt-MAX_ROWS.false
+    (sym c.zero_missing.ensures ∙ c.if-zero_missing.false)
     (sym c.number_wrong.ensures ∙ c.if-number_wrong.true)
 
 pub returns-then-face_twice : goal.returns-then-face_twice
 returns-then-face_twice c =
-    let e5 = c in
-    let e4 = e5 in
-    let e3 = e4 in
-    let e2 = e3 in
-    let e1 = e2 in
     refused_8
-    e1.args.block.now
-    (told-yes e1.is_version.result e1.is_version.ensures e1.if-not-is_version.false-raw)
-    e2.if-block-gt-MAX_POINTS.false
-    e3.if-block-gt-MAX_ROWS.false
-    (sym e4.zero_missing.ensures ∙ e4.if-zero_missing.false)
-    (sym e5.number_wrong.ensures ∙ e5.if-number_wrong.false)
+    c.args.block.now
+    (told-yes c.is_version.result c.is_version.ensures c.if-not-is_version.false-raw)
+    c.if-block-gt-MAX_POINTS.false
+    c.if-block-gt-MAX_ROWS.false
+    (sym c.zero_missing.ensures ∙ c.if-zero_missing.false)
+    (sym c.number_wrong.ensures ∙ c.if-number_wrong.false)
     (sym c.face_twice.ensures ∙ c.if-face_twice.true)
 
 pub returns-then-marks_disagree : goal.returns-then-marks_disagree
 returns-then-marks_disagree c =
-    let e6 = c in
-    let e5 = e6 in
-    let e4 = e5 in
-    let e3 = e4 in
-    let e2 = e3 in
-    let e1 = e2 in
     refused_22
-    e1.args.block.now
-    (told-yes e1.is_version.result e1.is_version.ensures e1.if-not-is_version.false-raw)
-    e2.if-block-gt-MAX_POINTS.false
-    e3.if-block-gt-MAX_ROWS.false
-    (sym e4.zero_missing.ensures ∙ e4.if-zero_missing.false)
-    (sym e5.number_wrong.ensures ∙ e5.if-number_wrong.false)
-    (sym e6.face_twice.ensures ∙ e6.if-face_twice.false)
+    c.args.block.now
+    (told-yes c.is_version.result c.is_version.ensures c.if-not-is_version.false-raw)
+    c.if-block-gt-MAX_POINTS.false
+    c.if-block-gt-MAX_ROWS.false
+    (sym c.zero_missing.ensures ∙ c.if-zero_missing.false)
+    (sym c.number_wrong.ensures ∙ c.if-number_wrong.false)
+    (sym c.face_twice.ensures ∙ c.if-face_twice.false)
     (sym c.marks_disagree.ensures ∙ c.if-marks_disagree.true)
 
 pub returns : goal.returns
 returns c =
-    let e6 = c in
-    let e5 = e6 in
-    let e4 = e5 in
-    let e3 = e4 in
-    let e2 = e3 in
-    let e1 = e2 in
     all_right
-    e1.args.block.now
-    (told-yes e1.is_version.result e1.is_version.ensures e1.if-not-is_version.false-raw)
-    e2.if-block-gt-MAX_POINTS.false
-    e3.if-block-gt-MAX_ROWS.false
-    (sym e4.zero_missing.ensures ∙ e4.if-zero_missing.false)
-    (sym e5.number_wrong.ensures ∙ e5.if-number_wrong.false)
-    (sym e6.face_twice.ensures ∙ e6.if-face_twice.false)
+    c.args.block.now
+    (told-yes c.is_version.result c.is_version.ensures c.if-not-is_version.false-raw)
+    c.if-block-gt-MAX_POINTS.false
+    c.if-block-gt-MAX_ROWS.false
+    (sym c.zero_missing.ensures ∙ c.if-zero_missing.false)
+    (sym c.number_wrong.ensures ∙ c.if-number_wrong.false)
+    (sym c.face_twice.ensures ∙ c.if-face_twice.false)
     (sym c.marks_disagree.ensures ∙ c.if-marks_disagree.false)

@@ -11,16 +11,13 @@ returns-then-not_zero c = rw (sym c.not_zero.ensures ∙ c.if-not_zero.true)
 pub returns-then-not_zero-2 : goal.returns-then-not_zero-2
 unfolding zero_missing
 returns-then-not_zero-2 c =
-    let k = c in
-    let first = sym k.not_zero.ensures ∙ k.if-not_zero.false in
+    let first = sym c.not_zero.ensures ∙ c.if-not_zero.false in
     let second = sym c.not_zero-2.ensures ∙ c.if-not_zero-2.true in
     rw (first, second)
 
 pub returns : goal.returns
 unfolding zero_missing
 returns c =
-    let l = c in
-    let k = l in
-    let first = sym k.not_zero.ensures ∙ k.if-not_zero.false in
-    let second = sym l.not_zero-2.ensures ∙ l.if-not_zero-2.false in
+    let first = sym c.not_zero.ensures ∙ c.if-not_zero.false in
+    let second = sym c.not_zero-2.ensures ∙ c.if-not_zero-2.false in
     rw (first, second) c.not_zero-3.ensures

@@ -47,17 +47,10 @@ returns-then-uses_either c = rw (sym c.uses_either.ensures ∙ c.if-uses_either.
 pub returns-in_default-beside : goal.returns-in_default-beside
 unfolding candidate_over
 returns-in_default-beside c =
-    let b = c in
-    let w = b in
-    let e = w in
-    rw (sym e.uses_either.ensures ∙ e.if-uses_either.false, ← w.worst_of_two.ensures, ← b.beside.ensures, c.in_default-beside.is)
+    rw (sym c.uses_either.ensures ∙ c.if-uses_either.false, ← c.worst_of_two.ensures, ← c.beside.ensures, c.in_default-beside.is)
 
 pub returns : goal.returns
 unfolding candidate_over
 returns c =
-    let q = c in
-    let b = q in
-    let w = b in
-    let e = w in
     c.beside-2.ensures
-    ∙ rw (sym e.uses_either.ensures ∙ e.if-uses_either.false, ← w.worst_of_two.ensures, ← b.beside.ensures, q.in-Worst.is)
+    ∙ rw (sym c.uses_either.ensures ∙ c.if-uses_either.false, ← c.worst_of_two.ensures, ← c.beside.ensures, c.in-Worst.is)

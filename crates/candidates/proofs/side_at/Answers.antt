@@ -11,27 +11,22 @@ returns-then-j-i c =
 
 pub returns-then-used-at : goal.returns-then-used-at
 returns-then-used-at c =
-    let e = c in
-    let a = e.args in
+    let a = c.args in
     let used = rw c.cell_at-at.ensures.0 at c.if-used-at.true in
-    sym (side_used_lem a.kinds.now a.nums.now a.dens.now a.used.now a.i a.j e.if-j-i.false used)
+    sym (side_used_lem a.kinds.now a.nums.now a.dens.now a.used.now a.i a.j c.if-j-i.false used)
 
 pub returns-in-Mark : goal.returns-in-Mark
 returns-in-Mark c =
-    let b = c in
-    let s = b in
-    let a = s.args in
-    let used = rw s.cell_at-at.ensures.0 at b.if-used-at.false in
-    let best = rw s.cell_at-at.ensures.0 at b.best_at-best.ensures in
-    sym (side_read a.kinds.now a.nums.now a.dens.now a.used.now a.i a.j s.if-j-i.false used none
+    let a = c.args in
+    let used = rw c.cell_at-at.ensures.0 at c.if-used-at.false in
+    let best = rw c.cell_at-at.ensures.0 at c.best_at-best.ensures in
+    sym (side_read a.kinds.now a.nums.now a.dens.now a.used.now a.i a.j c.if-j-i.false used none
     (rw c.in-Mark.is at best))
 
 pub returns-in-Worst : goal.returns-in-Worst
 returns-in-Worst c =
-    let b = c in
-    let s = b in
-    let a = s.args in
-    let used = rw s.cell_at-at.ensures.0 at b.if-used-at.false in
-    let best = rw s.cell_at-at.ensures.0 at b.best_at-best.ensures in
-    sym (side_read a.kinds.now a.nums.now a.dens.now a.used.now a.i a.j s.if-j-i.false used (some _)
+    let a = c.args in
+    let used = rw c.cell_at-at.ensures.0 at c.if-used-at.false in
+    let best = rw c.cell_at-at.ensures.0 at c.best_at-best.ensures in
+    sym (side_read a.kinds.now a.nums.now a.dens.now a.used.now a.i a.j c.if-j-i.false used (some _)
     (rw c.in-Worst.is at best))

@@ -6,14 +6,13 @@ pub returns : goal.returns
 unfolding worst_over
 returns c =
     let two = c.of-2 in
-    let p = c in
     rw (
       c.worse_of.ensures,
       c.of.ensures,
       two.ensures,
-      p.point_in-b.ensures,
-      p.point_in-z.ensures,
-      p.point_in-y.ensures,
-      p.point_in-x.ensures,
-      p.point_in-a.ensures,
+      c.point_in-b.ensures,
+      c.point_in-z.ensures,
+      c.point_in-y.ensures,
+      c.point_in-x.ensures,
+      c.point_in-a.ensures,
     )

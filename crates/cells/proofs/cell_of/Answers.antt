@@ -6,11 +6,10 @@ returns-in-Nothing c = rw c.in-Nothing.is
 
 pub returns-in-Apex : goal.returns-in-Apex
 returns-in-Apex c =
-    let k = c in
     rw (
-      k.in-Apex.is,
+      c.in-Apex.is,
       c.kind_code.ensures,
-      k.kind.ensures,
+      c.kind.ensures,
       c.num.ensures,
       c.den.ensures,
     )

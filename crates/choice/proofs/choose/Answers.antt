@@ -29,43 +29,36 @@ side_at-right-requires c =
 
 pub candidate-requires : goal.candidate-requires
 candidate-requires c =
-    let two = c in
-    let l = two in
-    let s = l in
-    let rim = s.requires.rimmed.0 in (
-      s.requires.rimmed.1,
-      s.requires.rimmed.2,
-      rw two.two_over-rows.ensures (record {
+    let rim = c.requires.rimmed.0 in (
+      c.requires.rimmed.1,
+      c.requires.rimmed.2,
+      rw c.two_over-rows.ensures (record {
         a = rim.a;
-        x = rim.v (s.args.i - 1) (omega arith);
-        y = rim.v (l.loop-k.k - 1) (omega arith);
-        z = rim.v (s.args.j - 1) (omega arith);
+        x = rim.v (c.args.i - 1) (omega arith);
+        y = rim.v (c.loop-k.k - 1) (omega arith);
+        z = rim.v (c.args.j - 1) (omega arith);
         b = rim.b;
       }),
     )
 
 pub loop-k-preserved : goal.loop-k-preserved
 loop-k-preserved c =
-    let right = c in
-    let left = right in
-    let two = left in
-    let l = two in
-    let a = l.args in
+    let a = c.args in
     let kinds = a.kinds.now in
     let nums = a.nums.now in
     let dens = a.dens.now in
     let used = a.used.now in
-    let k = l.loop-k.k in (
+    let k = c.loop-k.k in (
       omega arith,
       omega arith,
       λ site given end smaller.
           step_is (λ k. candidate site (best_in kinds nums dens) a.i k a.j) a.i k (omega arith)
-          (l.loop-k.invariant.2 site given end smaller)
+          (c.loop-k.invariant.2 site given end smaller)
           (c.candidate.ensures
-          ∙ ap (λ rows. candidate_over a.coordinates.now (take a.n a.keys.now) rows left.side_at-left.result
-          right.side_at-right.result) two.two_over-rows.ensures
+          ∙ ap (λ rows. candidate_over a.coordinates.now (take a.n a.keys.now) rows c.side_at-left.result
+          c.side_at-right.result) c.two_over-rows.ensures
           ∙ ap₂ (candidate_over a.coordinates.now (take a.n a.keys.now) (two_over a.rim a.i k a.j))
-          left.side_at-left.ensures right.side_at-right.ensures
+          c.side_at-left.ensures c.side_at-right.ensures
           ∙ candidate_is given (omega arith) (omega arith) (omega arith) end kinds nums dens used smaller)
           c.taken-found.ensures,
     )

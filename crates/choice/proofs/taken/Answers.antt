@@ -7,10 +7,8 @@ returns-in_default-found c = rw (c.in_default-found.is, c.in-Worst.is)
 
 pub returns-then-worse : goal.returns-then-worse
 returns-then-worse c =
-    let found = c in
-    rw (found.in-Apex.is, found.in-Worst.is, sym c.worse.ensures ∙ c.if-worse.true)
+    rw (c.in-Apex.is, c.in-Worst.is, sym c.worse.ensures ∙ c.if-worse.true)
 
 pub returns : goal.returns
 returns c =
-    let found = c in
-    rw (found.in-Apex.is, found.in-Worst.is, sym c.worse.ensures ∙ c.if-worse.false)
+    rw (c.in-Apex.is, c.in-Worst.is, sym c.worse.ensures ∙ c.if-worse.false)

@@ -16,9 +16,5 @@ overwritten (_ ∷ _ ∷ _ ∷ _ ∷ _) x y z three = absurd (omega (arith, thre
 
 pub returns : goal.returns
 returns c =
-    let at-num = c in
-    let at-kind-number = at-num in
-    let at-kind = at-kind-number in
-    let at-start = at-kind in
-    overwritten at-start.args.out.now _ _ _ at-start.requires
-    ∙ rw (c.den.ensures, at-num.num.ensures, at-kind-number.kind_number.ensures, at-kind.kind.ensures)
+    overwritten c.args.out.now _ _ _ c.requires
+    ∙ rw (c.den.ensures, c.num.ensures, c.kind_number.ensures, c.kind.ensures)

@@ -15,6 +15,4 @@ returns-then-out-ne-PARTS c = simp (eq-eqb _ _ c.if-corners-ne-CORNER_BYTES.fals
 pub returns : goal.returns
 unfolding measured
 returns c =
-    let at-put = c in
-    let at-if2 = at-put in
-    simp (eq-eqb _ _ at-if2.if-corners-ne-CORNER_BYTES.false, eq-eqb _ _ at-if2.if-out-ne-PARTS.false, at-put.put.ensures, at-put.quality_in.ensures)
+    simp (eq-eqb _ _ c.if-corners-ne-CORNER_BYTES.false, eq-eqb _ _ c.if-out-ne-PARTS.false, c.put.ensures, c.quality_in.ensures)

@@ -14,13 +14,11 @@ wrapping_add_u64-sum-requires c = tt
 
 pub loop-i-preserved : goal.loop-i-preserved
 loop-i-preserved c =
-    let l = c in
-    (omega arith, total_more l.args.cells l.loop-i.i l.loop-i.sum _ l.loop-i.invariant.1 c.wrapping_add_u64-sum.ensures.value)
+    (omega arith, total_more c.args.cells c.loop-i.i c.loop-i.sum _ c.loop-i.invariant.1 c.wrapping_add_u64-sum.ensures.value)
 
 pub returns : goal.returns
 returns c =
-    let l = c in
-    let cells = l.args.cells in
+    let cells = c.args.cells in
     let size : length cells ≡ calls * answers = search rules in
-    let e : l.loop-i.i ≡ length cells = omega arith in
-    l.loop-i.invariant.1 ∙ ap (λ front. sum_of front % 2 ^ 64) (ap (λ i. take i cells) e ∙ take-length cells)
+    let e : c.loop-i.i ≡ length cells = omega arith in
+    c.loop-i.invariant.1 ∙ ap (λ front. sum_of front % 2 ^ 64) (ap (λ i. take i cells) e ∙ take-length cells)

@@ -15,11 +15,9 @@ returns-then-column-ge-ANSWERS c = simp (lt-leb _ _ c.if-row-ge-CALLS.false, le-
 pub returns-then-agrees : goal.returns-then-agrees
 unfolding counted
 returns-then-agrees c =
-    let k = c in
-    simp (lt-leb _ _ k.if-row-ge-CALLS.false, lt-leb _ _ k.if-column-ge-ANSWERS.false, c.if-agrees.true, c.with_one-more.ensures, c.with_one.ensures)
+    simp (lt-leb _ _ c.if-row-ge-CALLS.false, lt-leb _ _ c.if-column-ge-ANSWERS.false, c.if-agrees.true, c.with_one-more.ensures, c.with_one.ensures)
 
 pub returns : goal.returns
 unfolding counted
 returns c =
-    let k = c in
-    simp (lt-leb _ _ k.if-row-ge-CALLS.false, lt-leb _ _ k.if-column-ge-ANSWERS.false, c.if-agrees.false, c.with_one-more.ensures)
+    simp (lt-leb _ _ c.if-row-ge-CALLS.false, lt-leb _ _ c.if-column-ge-ANSWERS.false, c.if-agrees.false, c.with_one-more.ensures)

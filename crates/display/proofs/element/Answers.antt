@@ -15,15 +15,10 @@ returns-then-n-i c =
 
 pub row_quality-quality-requires : goal.row_quality-quality-requires
 row_quality-quality-requires c =
-    let start = c in
-    rw c.row_in.ensures (measured_row start.requires start.args.i (omega arith))
+    rw c.row_in.ensures (measured_row c.requires c.args.i (omega arith))
 
 pub returns : goal.returns
 returns c =
-    let at_shown = c in
-    let measured = at_shown in
-    let row = measured in
-    let left = row in
-    let a = left.args in
-    table_shown a.coordinates.now a.count a.table.now a.n a.i left.if-n-i.false _ _ _ _
-    row.row_in.ensures measured.row_quality-quality.ensures at_shown.of-shown.ensures.value c.signed.ensures
+    let a = c.args in
+    table_shown a.coordinates.now a.count a.table.now a.n a.i c.if-n-i.false _ _ _ _
+    c.row_in.ensures c.row_quality-quality.ensures c.of-shown.ensures.value c.signed.ensures

@@ -19,15 +19,13 @@ element-requires c = c.requires.0
 
 pub loop-i-preserved : goal.loop-i-preserved
 loop-i-preserved c =
-    let l = c in
-    let start = l in
-    let a = start.args in
+    let a = c.args in
     let patch = patch_in a.coordinates.now a.count a.table.now a.n in (
       omega arith,
-      ap (λ elements. set elements l.loop-i.i c.element.result) l.loop-i.invariant.1
-          ∙ (ap (set (up_to patch a.out.now l.loop-i.i) l.loop-i.i) {y = get_or (shown_of patch) l.loop-i.i plus_zero} c.element.ensures
-          ∙ one_more patch (omega (arith, rows_length a.table.now a.n)) a.out.now start.requires.2 l.loop-i.i (omega arith)),
-      simp length-set l.loop-i.invariant.2,
+      ap (λ elements. set elements c.loop-i.i c.element.result) c.loop-i.invariant.1
+          ∙ (ap (set (up_to patch a.out.now c.loop-i.i) c.loop-i.i) {y = get_or (shown_of patch) c.loop-i.i plus_zero} c.element.ensures
+          ∙ one_more patch (omega (arith, rows_length a.table.now a.n)) a.out.now c.requires.2 c.loop-i.i (omega arith)),
+      simp length-set c.loop-i.invariant.2,
     )
 
 pub shape_of-out : goal.shape_of-out
@@ -35,11 +33,9 @@ shape_of-out c = c.loop-i.invariant.2 ∙ sym c.requires.2
 
 pub returns : goal.returns
 returns c =
-    let l = c in
-    let start = l in
-    let a = start.args in
+    let a = c.args in
     let patch = patch_in a.coordinates.now a.count a.table.now a.n in
-    let e : l.loop-i.i ≡ max_rows = omega arith in
-    l.loop-i.invariant.1
+    let e : c.loop-i.i ≡ max_rows = omega arith in
+    c.loop-i.invariant.1
     ∙ (ap (up_to patch a.out.now) e
-    ∙ all_written patch (omega (arith, rows_length a.table.now a.n)) a.out.now start.requires.2)
+    ∙ all_written patch (omega (arith, rows_length a.table.now a.n)) a.out.now c.requires.2)

@@ -18,11 +18,9 @@ returns-then-out-ne-MAX_ROWS c =
 
 pub returns-in_default : goal.returns-in_default
 returns-in_default c =
-    let opened = c in
-    let left = opened in
-    let a = left.args in
+    let a = c.args in
     let both =
-    not_opened a.block.now a.out.now left.if-out-ne-MAX_ROWS.false _ opened.opening-answer.ensures _ c.in_default.is in
+    not_opened a.block.now a.out.now c.if-out-ne-MAX_ROWS.false _ c.opening-answer.ensures _ c.in_default.is in
     record { answer = both.0; elements = both.1 }
 
 pub slice_bounds-put_elements-end : goal.slice_bounds-put_elements-end
@@ -50,12 +48,8 @@ put_elements-requires c =
 
 pub returns : goal.returns
 returns c =
-    let put = c in
-    let k = put in
-    let opened = k in
-    let left = opened in
-    let a = left.args in
+    let a = c.args in
     let both =
-    elements_written a.block.now a.out.now left.if-out-ne-MAX_ROWS.false _ opened.opening-answer.ensures k.in-Done.is _
-    put.put_elements.ensures in
+    elements_written a.block.now a.out.now c.if-out-ne-MAX_ROWS.false _ c.opening-answer.ensures c.in-Done.is _
+    c.put_elements.ensures in
     record { answer = both.0; elements = both.1 }

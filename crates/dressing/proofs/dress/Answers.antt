@@ -13,16 +13,12 @@ use Rattle.dressing.proofs.dress.Goals as goal
 
 pub returns : goal.returns
 returns c =
-    let all = c in
-    let gathered = all in
-    let known = gathered in
-    let start = known in
-    let a = start.args in
+    let a = c.args in
     let table = a.table.now in
     let rows = a.rows.now in
-    all.dress_all.ensures
+    c.dress_all.ensures
     ∙ ap (with_rows rows a.from)
-    (all_dressed_alike (holds_face (a.x ∷ a.y ∷ a.z ∷ [])) (rows_in table a.n) start.requires.n_in_bounds.2
-    (rows_bytes table (λ j. omega (arith, known.type_inv.table j)) a.n) _ gathered.gather-count.ensures.2 _
+    (all_dressed_alike (holds_face (a.x ∷ a.y ∷ a.z ∷ [])) (rows_in table a.n) c.requires.n_in_bounds.2
+    (rows_bytes table (λ j. omega (arith, c.type_inv.table j)) a.n) _ c.gather-count.ensures.2 _
     (λ row m. let (i, k, e) = Memᴰ.of_map (row_in rows) (numbers_from a.from (a.end - a.from)) m in
-    subst Bytes e (row_bytes_lem rows (λ j. omega (arith, known.slice_known-1.given j)) i)))
+    subst Bytes e (row_bytes_lem rows (λ j. omega (arith, c.slice_known-1.given j)) i)))

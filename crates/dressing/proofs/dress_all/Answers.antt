@@ -23,24 +23,21 @@ loop-i-init c =
 
 pub dress_row-row-requires : goal.dress_row-row-requires
 dress_row-row-requires c =
-    let s = c in
-    (s.requires.2, s.requires.3)
+    (c.requires.2, c.requires.3)
 
 pub loop-i-preserved : goal.loop-i-preserved
 loop-i-preserved c =
-    let put = c in
-    let k = put in
-    let a = k.args in
-    let i = k.loop-i.i in
+    let a = c.args in
+    let i = c.loop-i.i in
     let dress = dress_by (λ f. has (take a.n a.keys.now) (face_key f)) in
-    let dressed : put.dress_row-row.result ≡ dress (row_in k.loop-i.rows i) =
-    put.dress_row-row.ensures ∙ ap dress put.row_in.ensures in (
+    let dressed : c.dress_row-row.result ≡ dress (row_in c.loop-i.rows i) =
+    c.dress_row-row.ensures ∙ ap dress c.row_in.ensures in (
       omega arith,
       omega arith,
-      ap length put.put_row.ensures ∙ with_length k.loop-i.rows i (_ ∷ []) (omega (arith, k.loop-i.invariant.2)) ∙ k.loop-i.invariant.2,
-      put.put_row.ensures
-          ∙ ap (λ row. with_rows k.loop-i.rows i (row ∷ [])) dressed
-          ∙ dressed_more a.rows.now a.from dress k.loop-i.rows i k.loop-i.invariant.0 (omega arith) k.loop-i.invariant.3,
+      ap length c.put_row.ensures ∙ with_length c.loop-i.rows i (_ ∷ []) (omega (arith, c.loop-i.invariant.2)) ∙ c.loop-i.invariant.2,
+      c.put_row.ensures
+          ∙ ap (λ row. with_rows c.loop-i.rows i (row ∷ [])) dressed
+          ∙ dressed_more a.rows.now a.from dress c.loop-i.rows i c.loop-i.invariant.0 (omega arith) c.loop-i.invariant.3,
     )
 
 pub shape_of-rows : goal.shape_of-rows

@@ -26,8 +26,7 @@ no_keys over (row ∷ rows) none = rw (none row (Memᴰ.head refl)) (no_keys ove
 
 pub returns-then-unmarked : goal.returns-then-unmarked
 returns-then-unmarked c =
-    let s = c in
-    let a = s.args in
+    let a = c.args in
     let table = a.table.now in
     let none = c.unmarked.ensures c.if-unmarked.true in (
       search rules,
@@ -48,16 +47,15 @@ store_marked-count-requires c =
 
 pub loop-i-preserved : goal.loop-i-preserved
 loop-i-preserved c =
-    let k = c in
-    let a = k.args in
-    let i = k.loop-i.i in
+    let a = c.args in
+    let i = c.loop-i.i in
     let table = a.table.now in
     let over : Row → Bool = λ row. not (holds_face (a.x ∷ a.y ∷ a.z ∷ []) row) in (
       omega arith,
       c.store_marked-count.ensures.0,
-      omega (arith, c.store_marked-count.ensures.1, k.loop-i.invariant.2),
+      omega (arith, c.store_marked-count.ensures.1, c.loop-i.invariant.2),
       c.store_marked-count.ensures.2
-          ∙ rw (k.loop-i.invariant.3, c.holds_face.ensures, c.row_in-row.ensures)
+          ∙ rw (c.loop-i.invariant.3, c.holds_face.ensures, c.row_in-row.ensures)
           (sym (flat_map_snoc (λ row. marked_keys (over row) row) (rows_in table i) (row_in table i))
           ∙ ap (keys_marked over) (sym (rows_more table i) ∙ ap (rows_in table) (sym (add-one i)))),
     )

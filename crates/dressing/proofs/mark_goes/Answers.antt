@@ -23,8 +23,7 @@ unmarked-over numbers row e = no_is _ (unmarked_none row e (λ f. every (has (f.
 
 pub returns-then-unmarked : goal.returns-then-unmarked
 returns-then-unmarked c =
-    let s = c in
-    let a = s.args in
+    let a = c.args in
     let table = a.table.now in
     let over = marks_over (a.x ∷ a.y ∷ a.z ∷ []) in
     let none = c.unmarked.ensures c.if-unmarked.true in
@@ -38,28 +37,25 @@ loop-i-init c = (omega arith, refl)
 
 pub returns-then-marks_over : goal.returns-then-marks_over
 returns-then-marks_over c =
-    let k = c in
-    let a = k.args in
+    let a = c.args in
     let table = a.table.now in
     let over = marks_over (a.x ∷ a.y ∷ a.z ∷ []) in
     let told = rw c.row_in.ensures at c.marks_over.ensures in
-    sym (yes_is (any over (rows_in table a.n)) (any_i over (rows_in table a.n) (row_among table a.n k.loop-i.i (omega arith))
-    (is_yes (over (row_in table k.loop-i.i)) (sym told ∙ c.if-marks_over.true))))
+    sym (yes_is (any over (rows_in table a.n)) (any_i over (rows_in table a.n) (row_among table a.n c.loop-i.i (omega arith))
+    (is_yes (over (row_in table c.loop-i.i)) (sym told ∙ c.if-marks_over.true))))
 
 pub loop-i-preserved : goal.loop-i-preserved
 loop-i-preserved c =
-    let k = c in
-    let a = k.args in
+    let a = c.args in
     let table = a.table.now in
-    let i = k.loop-i.i in
+    let i = c.loop-i.i in
     let over = marks_over (a.x ∷ a.y ∷ a.z ∷ []) in
     let told = rw c.row_in.ensures at c.marks_over.ensures in
     let no : over (row_in table i) ≡ false = sym told ∙ c.if-marks_over.false in
-    (omega arith, rw (add-one i, rows_more table i, any_snoc over (rows_in table i) (row_in table i), k.loop-i.invariant.1, no))
+    (omega arith, rw (add-one i, rows_more table i, any_snoc over (rows_in table i) (row_in table i), c.loop-i.invariant.1, no))
 
 pub returns : goal.returns
 returns c =
-    let k = c in
-    let a = k.args in
-    let e : k.loop-i.i ≡ a.n = omega arith in
-    sym (rw e at k.loop-i.invariant.1)
+    let a = c.args in
+    let e : c.loop-i.i ≡ a.n = omega arith in
+    sym (rw e at c.loop-i.invariant.1)

@@ -13,13 +13,10 @@ returns-then-block-ne-BLOCK_BYTES c =
 
 pub returns-then-out-ne-BLOCK_BYTES : goal.returns-then-out-ne-BLOCK_BYTES
 returns-then-out-ne-BLOCK_BYTES c =
-    let e1 = c in
-    let a = e1.args in
-    ap answer_of (sym (out_1 a.block.now a.out.now e1.if-block-ne-BLOCK_BYTES.false c.if-out-ne-BLOCK_BYTES.true))
+    let a = c.args in
+    ap answer_of (sym (out_1 a.block.now a.out.now c.if-block-ne-BLOCK_BYTES.false c.if-out-ne-BLOCK_BYTES.true))
 
 pub returns : goal.returns
 returns c =
-    let e2 = c in
-    let e1 = e2 in
-    let a = e1.args in
-    c.opening.ensures ∙ ap answer_of (sym (out_opened a.block.now a.out.now e2.if-out-ne-BLOCK_BYTES.false))
+    let a = c.args in
+    c.opening.ensures ∙ ap answer_of (sym (out_opened a.block.now a.out.now c.if-out-ne-BLOCK_BYTES.false))

@@ -14,25 +14,22 @@ overflow_cast-count c = omega (arith, c.type_inv.block 1)
 
 pub returns-then-count-e : goal.returns-then-count-e
 returns-then-count-e c =
-    let start = c in
-    let args = start.args in
+    let args = c.args in
     c.no_ring.ensures
-    ∙ edge_9_first args.chains args.block.now args.e args.f start.requires c.if-count-e.true
+    ∙ edge_9_first args.chains args.block.now args.e args.f c.requires c.if-count-e.true
 
 pub returns-then-count-f : goal.returns-then-count-f
 returns-then-count-f c =
-    let start = c in
-    let args = start.args in
+    let args = c.args in
     c.no_ring-then-count-f.ensures
-    ∙ edge_9_second args.chains args.block.now args.e args.f start.requires c.if-count-e.false
+    ∙ edge_9_second args.chains args.block.now args.e args.f c.requires c.if-count-e.false
     c.if-count-f.true
 
 pub returns-then-e-f : goal.returns-then-e-f
 returns-then-e-f c =
-    let start = c in
-    let args = start.args in
+    let args = c.args in
     c.no_ring-then-e-f.ensures
-    ∙ edge_9_same args.chains args.block.now args.e args.f start.requires c.if-count-e.false
+    ∙ edge_9_same args.chains args.block.now args.e args.f c.requires c.if-count-e.false
     c.if-count-f.false c.if-e-f.true
 
 pub bounds-block-2 : goal.bounds-block-2
@@ -42,34 +39,25 @@ pub overflow_cast-block : goal.overflow_cast-block
 overflow_cast-block c = omega (arith, c.type_inv.block 2)
 
 pub smaller-requires : goal.smaller-requires
-smaller-requires c =
-    let l = c in
-    let k = l in (
-      omega (arith, l.if-count-e.false, k.type_inv.block 1),
-      omega (arith, l.if-count-f.false, k.type_inv.block 1),
+smaller-requires c = (
+      omega (arith, c.if-count-e.false, c.type_inv.block 1),
+      omega (arith, c.if-count-f.false, c.type_inv.block 1),
     )
 
 pub larger-requires : goal.larger-requires
-larger-requires c =
-    let l = c in
-    let k = l in (
-      omega (arith, l.if-count-e.false, k.type_inv.block 1),
-      omega (arith, l.if-count-f.false, k.type_inv.block 1),
+larger-requires c = (
+      omega (arith, c.if-count-e.false, c.type_inv.block 1),
+      omega (arith, c.if-count-f.false, c.type_inv.block 1),
     )
 
 pub find-requires : goal.find-requires
 find-requires c =
-    let l = c in
-    let start = l in
-    let args = start.args in
-    edge_table args.chains args.block.now args.e args.f start.requires _ _ c.smaller.ensures c.larger.ensures
-    l.if-e-f.false
+    let args = c.args in
+    edge_table args.chains args.block.now args.e args.f c.requires _ _ c.smaller.ensures c.larger.ensures
+    c.if-e-f.false
 
 pub returns : goal.returns
 returns c =
-    let g = c in
-    let l = g in
-    let start = l in
-    let args = start.args in
-    edge_ring args.chains args.block.now args.e args.f start.requires _ _ g.smaller.ensures g.larger.ensures
-    l.if-count-e.false l.if-count-f.false l.if-e-f.false _ c.find.ensures
+    let args = c.args in
+    edge_ring args.chains args.block.now args.e args.f c.requires _ _ c.smaller.ensures c.larger.ensures
+    c.if-count-e.false c.if-count-f.false c.if-e-f.false _ c.find.ensures

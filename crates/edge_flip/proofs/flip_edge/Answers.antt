@@ -91,13 +91,17 @@ carry_out-end-requires c =
     let three = c.if-ring-ne-THREE.false in
     let p = c.smaller-a.ensures in
     let q = c.larger-b.ensures in
-    let (single, own) = (one_region c.args.block.now c.args.out.now c.args.e c.args.f c.requires.0 c.requires.1 c.edge_at-found.result c.edge_at-found.ensures c.in-Done.is _ c.in-One.is) in (
-      ringed rings_alone c.args.block.now c.args.e c.args.f c.requires.0 c.edge_at-found.result c.edge_at-found.ensures c.in-Done.is _ _ p q,
-      carriable c.args.block.now c.args.out.now c.args.e c.args.f c.requires.0 c.requires.1 c.edge_at-found.result c.edge_at-found.ensures c.in-Done.is three _ _ p q single (marks_stay c.args.block.now c.args.out.now c.args.e c.args.f c.requires.0 c.requires.1 c.edge_at-found.result c.edge_at-found.ensures c.in-Done.is c.if-ring-ne-THREE.false _ _ c.smaller-a.ensures c.larger-b.ensures _ c.mark_goes.ensures c.if-mark_goes.false) _
+    let (single, own) = (one_region c.args.block.now c.args.out.now c.args.e c.args.f c.requires.0 c.requires.1 c.edge_at-found.result c.edge_at-found.ensures c.in-Done.is _ c.in-One.is) in
+    record {
+      ringed =
+          ringed rings_alone c.args.block.now c.args.e c.args.f c.requires.0 c.edge_at-found.result c.edge_at-found.ensures c.in-Done.is _ _ p q;
+      carriable =
+          carriable c.args.block.now c.args.out.now c.args.e c.args.f c.requires.0 c.requires.1 c.edge_at-found.result c.edge_at-found.ensures c.in-Done.is three _ _ p q single (marks_stay c.args.block.now c.args.out.now c.args.e c.args.f c.requires.0 c.requires.1 c.edge_at-found.result c.edge_at-found.ensures c.in-Done.is c.if-ring-ne-THREE.false _ _ c.smaller-a.ensures c.larger-b.ensures _ c.mark_goes.ensures c.if-mark_goes.false) _
           c.best_way-way.ensures _ c.in-Worst.is own (let it : length c.best_way-way.result.apexes ≡ cells = search rules in it)
           (omega (arith, begun_length c.args.block.now c.requires.0 c.args.out.now _ c.requires.1 c.begin.ensures))
-          (begun_version c.args.block.now c.requires.0 c.args.out.now _ c.requires.1 c.begin.ensures),
-    )
+          (begun_version c.args.block.now c.requires.0 c.args.out.now _ c.requires.1 c.begin.ensures);
+    }
+
 
 pub finish-requires : goal.finish-requires
 finish-requires c =

@@ -19,9 +19,5 @@ bounds-out-6 c = simp length-set (omega arith)
 pub returns : goal.returns
 unfolding summary_numbers
 returns c =
-    let at-has-octave = c in
-    let at-worst = at-has-octave in
-    let at-has-worst = at-worst in
-    let start = at-has-worst in
-    seven_filled start.args.out.now _ _ _ _ _ _ _ start.requires
-    ∙ rw (c.octave_number.ensures, at-has-octave.has_octave.ensures, at-worst.worst_number.ensures, at-has-worst.has_worst.ensures)
+    seven_filled c.args.out.now _ _ _ _ _ _ _ c.requires
+    ∙ rw (c.octave_number.ensures, c.has_octave.ensures, c.worst_number.ensures, c.has_worst.ensures)

@@ -7,21 +7,23 @@ use Rattle.elements.proofs.LengthFirst.{other_length, right_length}
 use Rattle.elements.proofs.store_page.Goals as goal
 
 pub returns-then-row-ne-PAGE_ELEMENTS : goal.returns-then-row-ne-PAGE_ELEMENTS
-returns-then-row-ne-PAGE_ELEMENTS c = other_length _ _ _ c.args.row.now c.if-row-ne-PAGE_ELEMENTS.true
+returns-then-row-ne-PAGE_ELEMENTS c =
+    let both =
+    other_length _ _ _ c.args.row.now c.if-row-ne-PAGE_ELEMENTS.true in
+    record { answer = both.0; elements = both.1 }
 
 pub returns-in-Done : goal.returns-in-Done
 returns-in-Done c =
-    let put = c in
-    let known = put in
-    let left = known in
-    let out = left.args.row.now in
-    let given = known.in-Done.is in
-    right_length _ _ _ out left.if-row-ne-PAGE_ELEMENTS.false (sym (ap removal_number given)) (put.put_page.ensures ∙ ap (page_over out) (sym given))
+    let out = c.args.row.now in
+    let given = c.in-Done.is in
+    let both =
+    right_length _ _ _ out c.if-row-ne-PAGE_ELEMENTS.false (sym (ap removal_number given)) (c.put_page.ensures ∙ ap (page_over out) (sym given)) in
+    record { answer = both.0; elements = both.1 }
 
 pub returns-in-Refused : goal.returns-in-Refused
 returns-in-Refused c =
-    let known = c in
-    let left = known in
-    let out = left.args.row.now in
-    let given = known.in-Refused.is in
-    right_length _ _ _ out left.if-row-ne-PAGE_ELEMENTS.false (sym (ap removal_number given)) (ap (page_over out) (sym given))
+    let out = c.args.row.now in
+    let given = c.in-Refused.is in
+    let both =
+    right_length _ _ _ out c.if-row-ne-PAGE_ELEMENTS.false (sym (ap removal_number given)) (ap (page_over out) (sym given)) in
+    record { answer = both.0; elements = both.1 }

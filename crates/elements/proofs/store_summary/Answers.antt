@@ -7,21 +7,23 @@ use Rattle.elements.proofs.LengthFirst.{other_length, right_length}
 use Rattle.elements.proofs.store_summary.Goals as goal
 
 pub returns-then-out-ne-SUMMARY_ELEMENTS : goal.returns-then-out-ne-SUMMARY_ELEMENTS
-returns-then-out-ne-SUMMARY_ELEMENTS c = other_length _ _ _ c.args.out.now c.if-out-ne-SUMMARY_ELEMENTS.true
+returns-then-out-ne-SUMMARY_ELEMENTS c =
+    let both =
+    other_length _ _ _ c.args.out.now c.if-out-ne-SUMMARY_ELEMENTS.true in
+    record { answer = both.0; elements = both.1 }
 
 pub returns-in-Summary : goal.returns-in-Summary
 returns-in-Summary c =
-    let put = c in
-    let known = put in
-    let left = known in
-    let out = left.args.out.now in
-    let given = known.in-Summary.is in
-    right_length _ _ _ out left.if-out-ne-SUMMARY_ELEMENTS.false (sym (ap summary_number given)) (put.put_summary.ensures ∙ ap (summary_over out) (sym given))
+    let out = c.args.out.now in
+    let given = c.in-Summary.is in
+    let both =
+    right_length _ _ _ out c.if-out-ne-SUMMARY_ELEMENTS.false (sym (ap summary_number given)) (c.put_summary.ensures ∙ ap (summary_over out) (sym given)) in
+    record { answer = both.0; elements = both.1 }
 
 pub returns-in-Refused : goal.returns-in-Refused
 returns-in-Refused c =
-    let known = c in
-    let left = known in
-    let out = left.args.out.now in
-    let given = known.in-Refused.is in
-    right_length _ _ _ out left.if-out-ne-SUMMARY_ELEMENTS.false (sym (ap summary_number given)) (ap (summary_over out) (sym given))
+    let out = c.args.out.now in
+    let given = c.in-Refused.is in
+    let both =
+    right_length _ _ _ out c.if-out-ne-SUMMARY_ELEMENTS.false (sym (ap summary_number given)) (ap (summary_over out) (sym given)) in
+    record { answer = both.0; elements = both.1 }

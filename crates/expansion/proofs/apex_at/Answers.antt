@@ -5,15 +5,13 @@ use Rattle.expansion.proofs.apex_at.Goals as goal
 
 pub overflow_cast-result : goal.overflow_cast-result
 overflow_cast-result c =
-    let s = c in
-    let a = s.args in
-    let high = s.requires.1.high a.i a.j (omega arith) s.requires.3 (omega arith) in
+    let a = c.args in
+    let high = c.requires.1.high a.i a.j (omega arith) c.requires.3 (omega arith) in
     rw c.cell_at.ensures.0 (omega (arith, high))
 
 pub returns : goal.returns
 returns c =
-    let s = c in
-    let a = s.args in
-    let high = s.requires.1.high a.i a.j (omega arith) s.requires.3 (omega arith) in
-    let low = s.requires.1.low a.i a.j (omega arith) s.requires.3 (omega arith) in
+    let a = c.args in
+    let high = c.requires.1.high a.i a.j (omega arith) c.requires.3 (omega arith) in
+    let low = c.requires.1.low a.i a.j (omega arith) c.requires.3 (omega arith) in
     rw c.cell_at.ensures.0 (refl, high, low)

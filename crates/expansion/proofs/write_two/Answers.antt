@@ -11,15 +11,10 @@ use Rattle.expansion.proofs.write_two.Goals as goal
 
 pub returns : goal.returns
 returns c =
-    let two = c in
-    let one = two in
-    let b-made = one in
-    let a-made = b-made in
-    let s = a-made in
-    let a = s.args in
+    let a = c.args in
     let a_row_fact : Row = record { p = a.rows.a; q = a.rows.x; r = a.rows.y; s = a.rows.z; region = a.region; marks = no_marks } in
     let b_row_fact : Row = record { p = a.rows.x; q = a.rows.y; r = a.rows.z; s = a.rows.b; region = a.region; marks = no_marks } in
-    two.put_row-2.ensures
-    ∙ rw b-made.plain-b_row.ensures
-    (ap (λ t. with_rows t (a.at + 1) (b_row_fact ∷ [])) (one.put_row.ensures ∙ ap (λ row. with_rows a.table.now a.at (row ∷ [])) a-made.plain-a_row.ensures))
-    ∙ with_more a.table.now a.at (a.at + 1) (a_row_fact ∷ []) (b_row_fact ∷ []) refl (omega (arith, s.requires))
+    c.put_row-2.ensures
+    ∙ rw c.plain-b_row.ensures
+    (ap (λ t. with_rows t (a.at + 1) (b_row_fact ∷ [])) (c.put_row.ensures ∙ ap (λ row. with_rows a.table.now a.at (row ∷ [])) c.plain-a_row.ensures))
+    ∙ with_more a.table.now a.at (a.at + 1) (a_row_fact ∷ []) (b_row_fact ∷ []) refl (omega (arith, c.requires))

@@ -43,23 +43,18 @@ returns-then-outside-2 c =
 
 pub returns-then-outside-3 : goal.returns-then-outside-3
 returns-then-outside-3 c =
-    let e2 = c in
-    apex-r _ _ _ e2.outside.ensures e2.if-outside.false _
-    e2.outside-2.ensures e2.if-outside-2.false _
+    apex-r _ _ _ c.outside.ensures c.if-outside.false _
+    c.outside-2.ensures c.if-outside-2.false _
     c.outside-3.ensures c.if-outside-3.true
 
 pub returns-then-outside-4 : goal.returns-then-outside-4
 returns-then-outside-4 c =
-    let e3 = c in
-    let e2 = e3 in
-    apex-s _ _ _ e2.outside.ensures e2.if-outside.false _
-    e2.outside-2.ensures e2.if-outside-2.false _
-    e3.outside-3.ensures e3.if-outside-3.false _ c.outside-4.ensures c.if-outside-4.true
+    apex-s _ _ _ c.outside.ensures c.if-outside.false _
+    c.outside-2.ensures c.if-outside-2.false _
+    c.outside-3.ensures c.if-outside-3.false _ c.outside-4.ensures c.if-outside-4.true
 
 pub returns : goal.returns
 returns c =
-    let e3 = c in
-    let e2 = e3 in
-    apex-none _ _ _ e2.outside.ensures e2.if-outside.false _
-    e2.outside-2.ensures e2.if-outside-2.false _
-    e3.outside-3.ensures e3.if-outside-3.false _ c.outside-4.ensures c.if-outside-4.false
+    apex-none _ _ _ c.outside.ensures c.if-outside.false _
+    c.outside-2.ensures c.if-outside-2.false _
+    c.outside-3.ensures c.if-outside-3.false _ c.outside-4.ensures c.if-outside-4.false

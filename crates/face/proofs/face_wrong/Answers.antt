@@ -52,20 +52,17 @@ returns-then-count-z c =
 
 pub returns-then-x-y : goal.returns-then-x-y
 returns-then-x-y c =
-    let below = c in
-    let a = below.args in
-    same-xy a.count a.x a.y a.z below.if-count-x.false below.if-count-y.false below.if-count-z.false c.if-x-y.true
+    let a = c.args in
+    same-xy a.count a.x a.y a.z c.if-count-x.false c.if-count-y.false c.if-count-z.false c.if-x-y.true
 
 pub returns-then-x-z : goal.returns-then-x-z
 returns-then-x-z c =
-    let below = c in
-    let a = below.args in
-    same-xz a.count a.x a.y a.z below.if-count-x.false below.if-count-y.false below.if-count-z.false
+    let a = c.args in
+    same-xz a.count a.x a.y a.z c.if-count-x.false c.if-count-y.false c.if-count-z.false
     c.if-x-y.false c.if-x-z.true
 
 pub returns : goal.returns
 returns c =
-    let below = c in
-    let a = below.args in
-    last-yz a.count a.x a.y a.z below.if-count-x.false below.if-count-y.false below.if-count-z.false
+    let a = c.args in
+    last-yz a.count a.x a.y a.z c.if-count-x.false c.if-count-y.false c.if-count-z.false
     c.if-x-y.false c.if-x-z.false

@@ -34,18 +34,11 @@ module _ (table one two three : List ℕ) (at : ℕ) (found : Sharing) (region u
 
 pub put_row-requires-3 : goal.put_row-requires-3
 put_row-requires-3 c =
-    let second = c in
-    let first = second in
-    omega (arith, second.rows-2-1.given, first.rows-1.given, first.requires.at_in_bounds)
+    omega (arith, c.rows-2-1.given, c.rows-1.given, c.requires.at_in_bounds)
 
 pub returns : goal.returns
 returns c =
-    let third = c in
-    let second = third in
-    let first = second in
-    let linked = first in
-    let start = linked in
-    all_three start.args.rows.now _ _ _ start.args.at start.args.found start.args.region start.args.u linked.link_of-after.result.v
-    linked.link_of-after.result.w _ start.requires.at_in_bounds linked.link_of-after.ensures
-    (rw first.plain.ensures at first.put_row.ensures) (rw second.plain-2.ensures at second.put_row-2.ensures)
-    (rw third.plain-3.ensures at third.put_row-3.ensures)
+    all_three c.args.rows.now _ _ _ c.args.at c.args.found c.args.region c.args.u c.link_of-after.result.v
+    c.link_of-after.result.w _ c.requires.at_in_bounds c.link_of-after.ensures
+    (rw c.plain.ensures at c.put_row.ensures) (rw c.plain-2.ensures at c.put_row-2.ensures)
+    (rw c.plain-3.ensures at c.put_row-3.ensures)

@@ -22,33 +22,30 @@ loop-i-init c = (omega arith, rw c.plain.ensures)
 
 pub with_row-found-requires : goal.with_row-found-requires
 with_row-found-requires c =
-    let at = c in
-    let args = at.args in
-    let rows = rows_in args.table.now at.loop-i.i in
-    rw at.loop-i.invariant.1 (omega (arith, share_few (args.x ∷ args.y ∷ args.z ∷ []) rows, rows_length args.table.now at.loop-i.i))
+    let args = c.args in
+    let rows = rows_in args.table.now c.loop-i.i in
+    rw c.loop-i.invariant.1 (omega (arith, share_few (args.x ∷ args.y ∷ args.z ∷ []) rows, rows_length args.table.now c.loop-i.i))
 
 pub loop-i-preserved : goal.loop-i-preserved
 loop-i-preserved c =
-    let at = c in
-    let args = at.args in
+    let args = c.args in
     let face = args.x ∷ args.y ∷ args.z ∷ [] in
     let row = c.row_in-row.ensures in
     let held = c.holds_face.ensures in
     elim c.if-holds_face.branch [
       then-holds_face w ↦ (
         omega arith,
-        held_next face args.table.now at.loop-i.i at.loop-i.found at.loop-i.invariant.1 _ row _ held w.if-holds_face.true _
+        held_next face args.table.now c.loop-i.i c.loop-i.found c.loop-i.invariant.1 _ row _ held w.if-holds_face.true _
             c.if-holds_face.found w.apex_over.ensures (w.found-is ∙ w.with_row-found.ensures),
       )
     | else-holds_face w ↦ (
         omega arith,
-        other_next face args.table.now at.loop-i.i at.loop-i.found at.loop-i.invariant.1 _ row _ held w.if-holds_face.false
+        other_next face args.table.now c.loop-i.i c.loop-i.found c.loop-i.invariant.1 _ row _ held w.if-holds_face.false
             c.if-holds_face.found w.found-is,
       )
     ]
 
 pub returns : goal.returns
 returns c =
-    let at = c in
-    let e : at.loop-i.i ≡ at.args.n = omega arith in
-    rw e at at.loop-i.invariant.1
+    let e : c.loop-i.i ≡ c.args.n = omega arith in
+    rw e at c.loop-i.invariant.1

@@ -11,11 +11,9 @@ returns-then-found-eq0 c = rw (eq-eqb _ _ c.if-found-eq0.true)
 pub returns-then-apex-found : goal.returns-then-apex-found
 unfolding with_row
 returns-then-apex-found c =
-    let k = c in
-    rw (ne_eqb _ _ k.if-found-eq0.false, lt-ltb _ _ c.if-apex-found.true, k.greater-b.ensures, k.with-regions.ensures)
+    rw (ne_eqb _ _ c.if-found-eq0.false, lt-ltb _ _ c.if-apex-found.true, c.greater-b.ensures, c.with-regions.ensures)
 
 pub returns : goal.returns
 unfolding with_row
 returns c =
-    let k = c in
-    rw (ne_eqb _ _ k.if-found-eq0.false, le-ltb _ _ c.if-apex-found.false, k.greater-b.ensures, k.with-regions.ensures)
+    rw (ne_eqb _ _ c.if-found-eq0.false, le-ltb _ _ c.if-apex-found.false, c.greater-b.ensures, c.with-regions.ensures)

@@ -9,14 +9,12 @@ pub returns-then-not-has_bits : goal.returns-then-not-has_bits
 unfolding page_is
 returns-then-not-has_bits c =
     let a = c.args in
-    let k = c in
-    fails _ (failed (k.has_bits.ensures ∙ ap (has_bits a.page.before) k.figure.ensures) c.if-not-has_bits.true-raw)
+    fails _ (failed (c.has_bits.ensures ∙ ap (has_bits a.page.before) c.figure.ensures) c.if-not-has_bits.true-raw)
 
 pub returns : goal.returns
 unfolding page_is
 returns c =
     let a = c.args in
-    let k = c in
     c.has_bits-2.ensures
     ∙ ap (has_bits a.page.after) c.figure-2.ensures
-    ∙ passes (passed (k.has_bits.ensures ∙ ap (has_bits a.page.before) k.figure.ensures) c.if-not-has_bits.false-raw)
+    ∙ passes (passed (c.has_bits.ensures ∙ ap (has_bits a.page.before) c.figure.ensures) c.if-not-has_bits.false-raw)

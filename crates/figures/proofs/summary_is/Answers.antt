@@ -12,43 +12,32 @@ returns-then-summary-figure c = fails _ (unlike c.figure.ensures c.if-summary-fi
 pub returns-then-summary-figure-2 : goal.returns-then-summary-figure-2
 unfolding summary_is
 returns-then-summary-figure-2 c =
-    let e1 = c in
-    fails _ (unlike c.figure-2.ensures c.if-summary-figure-2.true) ∙ passes (alike e1.figure.ensures e1.if-summary-figure.false)
+    fails _ (unlike c.figure-2.ensures c.if-summary-figure-2.true) ∙ passes (alike c.figure.ensures c.if-summary-figure.false)
 
 pub returns-then-summary-figure-3 : goal.returns-then-summary-figure-3
 unfolding summary_is
 returns-then-summary-figure-3 c =
-    let e2 = c in
-    let e1 = e2 in
     fails _ (unlike c.figure-3.ensures c.if-summary-figure-3.true)
-    ∙ passes (alike e2.figure-2.ensures e2.if-summary-figure-2.false)
-    ∙ passes (alike e1.figure.ensures e1.if-summary-figure.false)
+    ∙ passes (alike c.figure-2.ensures c.if-summary-figure-2.false)
+    ∙ passes (alike c.figure.ensures c.if-summary-figure.false)
 
 pub returns-then-not-worst_is : goal.returns-then-not-worst_is
 unfolding summary_is
 returns-then-not-worst_is c =
-    let e3 = c in
-    let e2 = e3 in
-    let e1 = e2 in
-    let w = c in
-    let worst = e1.args.summary.worst in
-    let is = at_two (worst_is worst) w.worst_is.ensures w.figure-4.ensures w.figure-5.ensures in
+    let worst = c.args.summary.worst in
+    let is = at_two (worst_is worst) c.worst_is.ensures c.figure-4.ensures c.figure-5.ensures in
     fails _ (failed is c.if-not-worst_is.true-raw)
-    ∙ passes (alike e3.figure-3.ensures e3.if-summary-figure-3.false)
-    ∙ passes (alike e2.figure-2.ensures e2.if-summary-figure-2.false)
-    ∙ passes (alike e1.figure.ensures e1.if-summary-figure.false)
+    ∙ passes (alike c.figure-3.ensures c.if-summary-figure-3.false)
+    ∙ passes (alike c.figure-2.ensures c.if-summary-figure-2.false)
+    ∙ passes (alike c.figure.ensures c.if-summary-figure.false)
 
 pub returns : goal.returns
 unfolding summary_is
 returns c =
-    let e3 = c in
-    let e2 = e3 in
-    let e1 = e2 in
-    let w = c in
-    let summary = e1.args.summary in
-    let is = at_two (worst_is summary.worst) w.worst_is.ensures w.figure-4.ensures w.figure-5.ensures in
+    let summary = c.args.summary in
+    let is = at_two (worst_is summary.worst) c.worst_is.ensures c.figure-4.ensures c.figure-5.ensures in
     at_two (octave_is summary.octave) c.octave_is.ensures c.figure-6.ensures c.figure-7.ensures
     ∙ passes (passed is c.if-not-worst_is.false-raw)
-    ∙ passes (alike e3.figure-3.ensures e3.if-summary-figure-3.false)
-    ∙ passes (alike e2.figure-2.ensures e2.if-summary-figure-2.false)
-    ∙ passes (alike e1.figure.ensures e1.if-summary-figure.false)
+    ∙ passes (alike c.figure-3.ensures c.if-summary-figure-3.false)
+    ∙ passes (alike c.figure-2.ensures c.if-summary-figure-2.false)
+    ∙ passes (alike c.figure.ensures c.if-summary-figure.false)

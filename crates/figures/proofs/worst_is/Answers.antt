@@ -14,9 +14,8 @@ returns-then-there-ne1 c = rw c.in-Worst.is (fails _ (ne_eqb _ _ c.if-there-ne1.
 pub returns-else-there-ne1 : goal.returns-else-there-ne1
 unfolding worst_is
 returns-else-there-ne1 c =
-    let k = c in
-    rw k.in-Worst.is
-    (ap (λ n. eqb n k.args.score) c.value.ensures ∙ passes (eq-eqb _ _ k.if-there-ne1.false))
+    rw c.in-Worst.is
+    (ap (λ n. eqb n c.args.score) c.value.ensures ∙ passes (eq-eqb _ _ c.if-there-ne1.false))
 
 pub returns-in-NoRows : goal.returns-in-NoRows
 unfolding worst_is

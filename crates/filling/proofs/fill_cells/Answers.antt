@@ -102,10 +102,9 @@ loop-at-preserved c =
 
 pub returns : goal.returns
 returns c =
-    let l = c in
-    let whole = l.loop-at.invariant.3 in
+    let whole = c.loop-at.invariant.3 in
     record {
       done = λ site site_rim size.
-          upto_end (l.loop-at.invariant.4 site site_rim size) (rw (← size) (omega (arith, l.cell_at-last.ensures.0, c.loop-at-test.false)));
+          upto_end (c.loop-at.invariant.4 site site_rim size) (rw (← size) (omega (arith, c.cell_at-last.ensures.0, c.loop-at-test.false)));
       kinds_len_2 = (whole.arrays.all_kinds, whole.arrays.all_nums, whole.arrays.all_dens, whole.all_apexes);
     }

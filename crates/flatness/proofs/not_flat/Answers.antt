@@ -37,12 +37,10 @@ row_volume-d-requires c = rw c.plain-outer.ensures c.requires.placed
 
 pub returns-then-d-lt0 : goal.returns-then-d-lt0
 returns-then-d-lt0 c =
-    let measured = c in
-    rw (measured.if-closed.false, ← measured.plain-outer.ensures)
-    (below (read measured.row_volume-d.type_inv measured.row_volume-d.ensures) c.if-d-lt0.true)
+    rw (c.if-closed.false, ← c.plain-outer.ensures)
+    (below (read c.row_volume-d.type_inv c.row_volume-d.ensures) c.if-d-lt0.true)
 
 pub returns : goal.returns
 returns c =
-    let measured = c in
-    rw (measured.if-closed.false, ← measured.plain-outer.ensures)
-    (not-below (read measured.row_volume-d.type_inv measured.row_volume-d.ensures) c.if-d-lt0.false)
+    rw (c.if-closed.false, ← c.plain-outer.ensures)
+    (not-below (read c.row_volume-d.type_inv c.row_volume-d.ensures) c.if-d-lt0.false)

@@ -9,11 +9,6 @@ use Rattle.input.proofs.numbers_behind.Goals as goal
 
 pub returns : goal.returns
 returns c =
-    let third = c in
-    let second = third in
-    let first = second in
-    let count = first in
-    let size = count in
-    let input = size.args.input.now in
-    let n = count.smaller-n.ensures ∙ ap (λ k. min most_numbers (length input - k)) size.block_length.ensures in
-    behind input n first.number_at-first.ensures second.number_at-second.ensures third.number_at-third.ensures c.number_at-fourth.ensures
+    let input = c.args.input.now in
+    let n = c.smaller-n.ensures ∙ ap (λ k. min most_numbers (length input - k)) c.block_length.ensures in
+    behind input n c.number_at-first.ensures c.number_at-second.ensures c.number_at-third.ensures c.number_at-fourth.ensures

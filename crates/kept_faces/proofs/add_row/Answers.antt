@@ -9,27 +9,22 @@ use Rattle.kept_faces.proofs.add_row.Goals as goal
 
 pub returns-then-holds_edge : goal.returns-then-holds_edge
 returns-then-holds_edge c =
-    let s = c in
-    let a = s.args in
+    let a = c.args in
     let keys = take a.n a.keys.now in
     let gone = row_gone a.met.now a.a a.b a.row (sym c.holds_edge.ensures ∙ c.if-holds_edge.true) in
-    (s.requires.0, omega arith, sym (ap (λ ks. keys ++ ks) gone ∙ append-nil keys))
+    (c.requires.0, omega arith, sym (ap (λ ks. keys ++ ks) gone ∙ append-nil keys))
 
 pub returns : goal.returns
 unfolding faces
 returns c =
-    let three = c in
-    let two = three in
-    let one = two in
-    let e = one in
-    let a = e.args in
+    let a = c.args in
     let met = a.met.now in
     let row = a.row in
-    let kept = row_kept met a.a a.b row (sym e.holds_edge.ensures ∙ e.if-holds_edge.false) in (
+    let kept = row_kept met a.a a.b row (sym c.holds_edge.ensures ∙ c.if-holds_edge.false) in (
       c.add_face.ensures.0,
       omega arith,
       four (take a.n a.keys.now) met (row.q, row.r, row.s) (row.p, row.s, row.r)
           (row.p, row.q, row.s) (row.p, row.r, row.q)
-          one.add_face-one.ensures.2 two.add_face-two.ensures.2 three.add_face-three.ensures.2 c.add_face.ensures.2
+          c.add_face-one.ensures.2 c.add_face-two.ensures.2 c.add_face-three.ensures.2 c.add_face.ensures.2
           ∙ ap (λ ks. take a.n a.keys.now ++ ks) (sym kept),
     )

@@ -15,25 +15,21 @@ loop-i-init c = (omega arith, search rules, omega arith, refl)
 
 pub add_row-found-requires : goal.add_row-found-requires
 add_row-found-requires c =
-    let l = c in
-    (l.loop-i.invariant.1, l.meet.ensures.0, omega arith)
+    (c.loop-i.invariant.1, c.meet.ensures.0, omega arith)
 
 pub loop-i-preserved : goal.loop-i-preserved
 loop-i-preserved c =
-    let row = c in
-    let l = row in
-    let a = l.args in (
+    let a = c.args in (
       omega arith,
       c.add_row-found.ensures.0,
       omega arith,
       c.add_row-found.ensures.2
-          ∙ rw (l.loop-i.invariant.3, row.row_in.ensures) (sym (kept_more a.table.now _ a.rim.a a.rim.b l.loop-i.i)),
+          ∙ rw (c.loop-i.invariant.3, c.row_in.ensures) (sym (kept_more a.table.now _ a.rim.a a.rim.b c.loop-i.i)),
     )
 
 pub returns : goal.returns
 returns c =
     let l = c.loop-i in
-    let meet = c in
-    let a = meet.args in
+    let a = c.args in
     let e : l.i ≡ a.n = omega arith in
-    (l.invariant.1, omega arith, record { met = _; points = meet.meet.ensures.1; are = rw e at l.invariant.3 })
+    (l.invariant.1, omega arith, record { met = _; points = c.meet.ensures.1; are = rw e at l.invariant.3 })

@@ -8,16 +8,15 @@ use Rattle.kept_faces.proofs.meet.Goals as goal
 
 pub loop-i-init : goal.loop-i-init
 loop-i-init c =
-    let s = c in
-    let rim = s.args.rim in
+    let rim = c.args.rim in
     let a = c.place in
     let b = c.place-2 in
-    let met = s.args.met.now in
+    let met = c.args.met.now in
     let one = set met a.result true in
     let a-fits : a.result < length met = omega arith in
     let b-fits : b.result < length one = simp length-set (omega arith) in (
       omega arith,
-      simp length-set s.requires.0,
+      simp length-set c.requires.0,
       still_met one b.result rim.a b-fits (just_met met rim.a a.result a.ensures.0 a-fits),
       just_met one rim.b b.result b.ensures.0 b-fits,
       λ l h. absurd (omega arith),
@@ -25,9 +24,8 @@ loop-i-init c =
 
 pub loop-i-preserved : goal.loop-i-preserved
 loop-i-preserved c =
-    let s = c in
-    let l = s.loop-i in
-    let rim = s.args.rim in
+    let l = c.loop-i in
+    let rim = c.args.rim in
     let at = c.place-in-loop-i.result in
     let fits : at < length l.met = omega arith in (
       omega arith,

@@ -6,12 +6,9 @@ returns-then-closed c = rw c.if-closed.true
 
 pub returns-then-among : goal.returns-then-among
 returns-then-among c =
-    let k = c in
-    rw (k.if-closed.false, ← k.face_key.ensures, ← c.among.ensures, c.if-among.true)
+    rw (c.if-closed.false, ← c.face_key.ensures, ← c.among.ensures, c.if-among.true)
 
 pub returns : goal.returns
 returns c =
-    let e = c in
-    let k = e in
-    rw (k.if-closed.false, ← k.face_key.ensures, ← e.among.ensures, e.if-among.false, ← c.face_key-2.ensures)
+    rw (c.if-closed.false, ← c.face_key.ensures, ← c.among.ensures, c.if-among.false, ← c.face_key-2.ensures)
     c.among-2.ensures

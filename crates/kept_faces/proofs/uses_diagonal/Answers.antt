@@ -7,5 +7,4 @@ returns-then-uses_either c = rw (sym c.uses_either.ensures ∙ c.if-uses_either.
 
 pub returns : goal.returns
 returns c =
-    let e = c in
-    rw (sym e.uses_either.ensures ∙ e.if-uses_either.false) c.uses_either-2.ensures
+    rw (sym c.uses_either.ensures ∙ c.if-uses_either.false) c.uses_either-2.ensures

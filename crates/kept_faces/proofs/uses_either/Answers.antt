@@ -6,6 +6,5 @@ returns-then-among c = rw (← c.face_key.ensures, ← c.among.ensures, c.if-amo
 
 pub returns : goal.returns
 returns c =
-    let e = c in
-    rw (← e.face_key.ensures, ← e.among.ensures, e.if-among.false, ← c.face_key-2.ensures)
+    rw (← c.face_key.ensures, ← c.among.ensures, c.if-among.false, ← c.face_key-2.ensures)
     c.among-2.ensures

@@ -23,12 +23,11 @@ row_apart-requires c = (search rules, omega arith)
 
 pub returns-then-not-row_apart : goal.returns-then-not-row_apart
 returns-then-not-row_apart c =
-    let k = c in
-    let a = k.args in
-    let i = k.loop-row.row in
+    let a = c.args in
+    let i = c.loop-row.row in
     -- with this row, the rows are apart if they were and the call of `row_apart` says so
     let more =
-    row_checked a.table.now _ a.n k.store_all.ensures.1 (λ j. omega (arith, c.type_inv.table j)) i (omega arith)
+    row_checked a.table.now _ a.n c.store_all.ensures.1 (λ j. omega (arith, c.type_inv.table j)) i (omega arith)
     c.row_apart.result c.row_apart.ensures in
     let no = c.if-not-row_apart.true in
     sym (apart_longer a.table.now (suc i) a.n (omega arith) (more
@@ -36,16 +35,15 @@ returns-then-not-row_apart c =
 
 pub loop-row-preserved : goal.loop-row-preserved
 loop-row-preserved c =
-    let k = c in
-    let a = k.args in
-    let i = k.loop-row.row in
+    let a = c.args in
+    let i = c.loop-row.row in
     -- with this row, the rows are apart if they were and the call of `row_apart` says so
     let more =
-    row_checked a.table.now _ a.n k.store_all.ensures.1 (λ j. omega (arith, c.type_inv.table j)) i (omega arith)
+    row_checked a.table.now _ a.n c.store_all.ensures.1 (λ j. omega (arith, c.type_inv.table j)) i (omega arith)
     c.row_apart.result c.row_apart.ensures in (
       omega arith,
-      k.loop-row.invariant.1,
-      rw (add-one i, more, c.if-not-row_apart.false) k.loop-row.invariant.2,
+      c.loop-row.invariant.1,
+      rw (add-one i, more, c.if-not-row_apart.false) c.loop-row.invariant.2,
     )
 
 pub returns : goal.returns

@@ -17,13 +17,12 @@ loop-i-init c = (omega arith, refl)
 
 pub loop-i-preserved : goal.loop-i-preserved
 loop-i-preserved c =
-    let k = c in
-    let a = k.args in
-    let i = k.loop-i.i in
+    let a = c.args in
+    let i = c.loop-i.i in
     let keys = a.keys.now in
     let h : i < length keys = omega arith in (
       omega arith,
-      ap (λ b. b || eqb a.key (get_or keys i 0)) k.loop-i.invariant.1
+      ap (λ b. b || eqb a.key (get_or keys i 0)) c.loop-i.invariant.1
           ∙ sym (any_snoc (eqb a.key) (take i keys) (get_or keys i 0))
           ∙ ap (any (eqb a.key)) (sym (take-suc keys i 0 h) ∙ ap (λ n. take n keys) (sym (add-one i))),
     )

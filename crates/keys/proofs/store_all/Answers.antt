@@ -22,14 +22,13 @@ store_keys-requires c = (search rules, omega arith)
 
 pub loop-i-preserved : goal.loop-i-preserved
 loop-i-preserved c =
-    let k = c in
-    let a = k.args in
-    let i = k.loop-i.i in
+    let a = c.args in
+    let i = c.loop-i.i in
     let table = a.table.now in (
       omega arith,
       c.store_keys.ensures.0,
       c.store_keys.ensures.1
-          ∙ rw (k.loop-i.invariant.2, c.row_in.ensures)
+          ∙ rw (c.loop-i.invariant.2, c.row_in.ensures)
           (sym (flat_map_snoc row_keys (rows_in table i) (row_in table i))
           ∙ ap table_keys (sym (rows_more table i) ∙ ap (rows_in table) (sym (add-one i)))),
     )

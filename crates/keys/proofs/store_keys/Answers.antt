@@ -11,10 +11,9 @@ use Rattle.keys.proofs.store_keys.Goals as goal
 pub returns : goal.returns
 unfolding faces
 returns c =
-    let s = c in
-    let a = s.args in
+    let a = c.args in
     let more : 4 * (a.i + 1) ≡ 4 * a.i + 4 = omega arith in (
-      simp length-set s.requires.0,
+      simp length-set c.requires.0,
       rw (
         more,
         c.face_key.ensures,

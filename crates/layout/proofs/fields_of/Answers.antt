@@ -16,11 +16,8 @@ same-fields e f = rw (e, f)
 
 pub returns : goal.returns
 returns c =
-    let second = c in
-    let first = second in
-    let start = first in
-    let block = start.args.block.now in
-    let room : body_bytes ≤ length block = start.requires in
+    let block = c.args.block.now in
+    let room : body_bytes ≤ length block = c.requires in
     same-fields
-    (whole (coordinates_of block) (replicate 192 0) _ (part_length 16 208 block (omega arith)) first.copy.ensures)
-    (whole (table_of block) (replicate 300 0) _ (part_length 208 508 block room) second.copy-2.ensures)
+    (whole (coordinates_of block) (replicate 192 0) _ (part_length 16 208 block (omega arith)) c.copy.ensures)
+    (whole (table_of block) (replicate 300 0) _ (part_length 208 508 block room) c.copy-2.ensures)

@@ -5,20 +5,16 @@ use Rattle.layout.proofs.sum_wrong.Goals as goal
 
 pub returns-then-differs : goal.returns-then-differs
 returns-then-differs c =
-    let s = c in
-    let start = s in
-    first_differs start.args.block.now s.sums_of-sums.result start.requires s.sums_of-sums.ensures
+    first_differs c.args.block.now c.sums_of-sums.result c.requires c.sums_of-sums.ensures
     c.differs.result c.differs.ensures c.if-differs.true
 
 pub returns : goal.returns
 returns c =
-    let s = c in
-    let start = s in
     second_decides
-    start.args.block.now
-    s.sums_of-sums.result
-    start.requires
-    s.sums_of-sums.ensures
+    c.args.block.now
+    c.sums_of-sums.result
+    c.requires
+    c.sums_of-sums.ensures
     c.differs.result
     c.differs.ensures
     c.if-differs.false

@@ -17,9 +17,8 @@ overflow_cast-body c = omega (arith, c.type_inv.body c.loop-i.i)
 
 pub loop-i-preserved : goal.loop-i-preserved
 loop-i-preserved c =
-    let k = c in
-    let l = k.loop-i in
-    let s = k.args.body.now in
+    let l = c.loop-i in
+    let s = c.args.body.now in
     let p = c.wrapping_add_u16-sum.ensures.value in
     let q = c.wrapping_add_u16-second.ensures.value in
     (omega arith, refl, omega arith, omega arith, sym (step s l.i (omega arith) l.first l.second _ _ p q) ∙ l.invariant.4)

@@ -30,12 +30,11 @@ put_number-line-requires c = tt
 
 pub loop-i-preserved : goal.loop-i-preserved
 loop-i-preserved c =
-    let l = c in
-    let v = l.args.ring.v in
-    let i = l.loop-i.i in
+    let v = c.args.ring.v in
+    let i = c.loop-i.i in
     let more = fields_more (take i v) (get_or v i 0) in
-    let longer = take-suc v i 0 (omega (arith, l.requires)) in
-    (omega arith, rw (add-one i, longer, more) (then_put l.loop-i.invariant.1 c.put_number-line.ensures))
+    let longer = take-suc v i 0 (omega (arith, c.requires)) in
+    (omega arith, rw (add-one i, longer, more) (then_put c.loop-i.invariant.1 c.put_number-line.ensures))
 
 pub put_end-requires : goal.put_end-requires
 put_end-requires c = tt
@@ -43,8 +42,6 @@ put_end-requires c = tt
 pub returns : goal.returns
 unfolding line text
 returns c =
-    let l = c in
-    let start = l in
-    let ring = start.args.ring in
-    let e : l.loop-i.i ≡ ring.m = omega arith in
-    then_put l.put_word-line.ensures (fields_put _ (rw e at l.loop-i.invariant.1) c.put_end.ensures)
+    let ring = c.args.ring in
+    let e : c.loop-i.i ≡ ring.m = omega arith in
+    then_put c.put_word-line.ensures (fields_put _ (rw e at c.loop-i.invariant.1) c.put_end.ensures)

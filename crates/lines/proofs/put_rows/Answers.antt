@@ -26,19 +26,17 @@ put_row-lines-requires c = tt
 
 pub loop-i-preserved : goal.loop-i-preserved
 loop-i-preserved c =
-    let l = c in
-    let a = l.args in
-    let i = l.loop-i.i in
+    let a = c.args in
+    let i = c.loop-i.i in
     let rows = rows_in a.table.now i in
     let last = row_in a.table.now i in
     let all = rows_more a.table.now i in
     let behind = drop-append-le a.from rows (last ∷ []) (omega (arith, rows_length a.table.now i)) in
     let lines = flat_map_snoc row_line (drop a.from rows) last in
-    let put = then_put l.loop-i.invariant.2 c.put_row-lines.ensures in
+    let put = then_put c.loop-i.invariant.2 c.put_row-lines.ensures in
     (omega arith, omega arith, rw (add-one i, all, behind, lines, ← c.row_in.ensures) put)
 
 pub returns : goal.returns
 returns c =
-    let l = c in
-    let e : l.loop-i.i ≡ l.args.n = omega arith in
-    rw e at l.loop-i.invariant.2
+    let e : c.loop-i.i ≡ c.args.n = omega arith in
+    rw e at c.loop-i.invariant.2

@@ -22,53 +22,49 @@ overflow_cast-i c = omega (arith, c.requires.few)
 
 pub link_of-requires : goal.link_of-requires
 link_of-requires c =
-    let held = c in
-    let at = held in
-    let pre = at.requires in
-    let table = at.args.table.now in
+    let pre = c.requires in
+    let table = c.args.table.now in
     record {
       count = pre.count;
       fits =
-          rw held.row_in-row.ensures
-          (row_fits_lem pre.count table at.args.n at.loop-i.i pre.rule (omega arith));
+          rw c.row_in-row.ensures
+          (row_fits_lem pre.count table c.args.n c.loop-i.i pre.rule (omega arith));
       apart = λ e. omega (arith, pre.order);
-      held = is_yes _ (sym held.holds_edge.ensures ∙ c.if-holds_edge.true);
+      held = is_yes _ (sym c.holds_edge.ensures ∙ c.if-holds_edge.true);
     }
 
 pub loop-i-preserved : goal.loop-i-preserved
 loop-i-preserved c =
-    let at = c in
-    let args = at.args in
+    let args = c.args in
     let row = c.row_in-row.ensures in
     let held = c.holds_edge.ensures in
-    let many : at.loop-i.links.n ≡ length (those (holds_edge args.a args.b) (rows_in args.table.now at.loop-i.i)) =
-    sym (in_length at.loop-i.links) ∙ ap length at.loop-i.invariant.2
-    ∙ length-map (those (holds_edge args.a args.b) (rows_in args.table.now at.loop-i.i)) (link args.a args.b) in
+    let many : c.loop-i.links.n ≡ length (those (holds_edge args.a args.b) (rows_in args.table.now c.loop-i.i)) =
+    sym (in_length c.loop-i.links) ∙ ap length c.loop-i.invariant.2
+    ∙ length-map (those (holds_edge args.a args.b) (rows_in args.table.now c.loop-i.i)) (link args.a args.b) in
     elim c.if-holds_edge.branch [
       | then-holds_edge w ↦ (
         omega arith,
         omega (arith, ap (λ links. links.n) w.links-is, w.added-links.ensures.0),
-        ap links_in w.links-is ∙ w.added-links.ensures.1 ∙ table_more args.a args.b args.table.now at.loop-i.i
-            at.loop-i.invariant.2 row (sym held ∙ w.if-holds_edge.true) w.link_of.ensures,
+        ap links_in w.links-is ∙ w.added-links.ensures.1 ∙ table_more args.a args.b args.table.now c.loop-i.i
+            c.loop-i.invariant.2 row (sym held ∙ w.if-holds_edge.true) w.link_of.ensures,
         ap places_in w.links-is ∙ w.added-links.ensures.2
-            ∙ places_more args.a args.b args.table.now at.loop-i.i at.loop-i.invariant.3 row (sym held ∙ w.if-holds_edge.true),
+            ∙ places_more args.a args.b args.table.now c.loop-i.i c.loop-i.invariant.3 row (sym held ∙ w.if-holds_edge.true),
         w.regions-is ∙ w.joined-regions.ensures
-            ∙ regions_more args.a args.b args.table.now at.loop-i.i at.loop-i.links.n at.loop-i.invariant.4 row many
+            ∙ regions_more args.a args.b args.table.now c.loop-i.i c.loop-i.links.n c.loop-i.invariant.4 row many
             (sym held ∙ w.if-holds_edge.true),
       )
       | else-holds_edge w ↦ (
         omega arith,
         omega (arith, ap (λ links. links.n) w.links-is),
-        ap links_in w.links-is ∙ table_same args.a args.b args.table.now at.loop-i.i at.loop-i.invariant.2 row (sym held ∙ w.if-holds_edge.false),
-        ap places_in w.links-is ∙ places_same args.a args.b args.table.now at.loop-i.i at.loop-i.invariant.3 row (sym held ∙ w.if-holds_edge.false),
+        ap links_in w.links-is ∙ table_same args.a args.b args.table.now c.loop-i.i c.loop-i.invariant.2 row (sym held ∙ w.if-holds_edge.false),
+        ap places_in w.links-is ∙ places_same args.a args.b args.table.now c.loop-i.i c.loop-i.invariant.3 row (sym held ∙ w.if-holds_edge.false),
         w.regions-is
-            ∙ regions_same args.a args.b args.table.now at.loop-i.i at.loop-i.links.n at.loop-i.invariant.4 row
+            ∙ regions_same args.a args.b args.table.now c.loop-i.i c.loop-i.links.n c.loop-i.invariant.4 row
             (sym held ∙ w.if-holds_edge.false),
       )
     ]
 
 pub returns : goal.returns
 returns c =
-    let at = c in
-    let e : at.loop-i.i ≡ at.args.n = omega arith in
-    (omega (arith, at.requires.few), rw e at at.loop-i.invariant.2, rw e at at.loop-i.invariant.3, rw e at at.loop-i.invariant.4)
+    let e : c.loop-i.i ≡ c.args.n = omega arith in
+    (omega (arith, c.requires.few), rw e at c.loop-i.invariant.2, rw e at c.loop-i.invariant.3, rw e at c.loop-i.invariant.4)

@@ -16,10 +16,9 @@ use Rattle.marking.proofs.all_agree.Goals as goal
 
 pub returns-then-unmarked : goal.returns-then-unmarked
 returns-then-unmarked c =
-    let s = c in
-    let table = s.args.table.now in
+    let table = c.args.table.now in
     let none = c.unmarked.ensures c.if-unmarked.true in
-    sym (unmarked_agree (rows_in table s.args.n) (λ row m. let (i, h, e) = among_rows table s.args.n m in rw e (none i)))
+    sym (unmarked_agree (rows_in table c.args.n) (λ row m. let (i, h, e) = among_rows table c.args.n m in rw e (none i)))
 
 pub loop-i-init : goal.loop-i-init
 unfolding every rows_in numbers_from
@@ -32,36 +31,29 @@ row_agrees-requires c =
 
 pub returns-then-not-row_agrees : goal.returns-then-not-row_agrees
 returns-then-not-row_agrees c =
-    let k = c in
-    let stored = k.store_all-count.ensures.2 in
-    let known = k in
-    let s = known in
-    let table = s.args.table.now in
-    let n = s.args.n in
-    let i = k.loop-i.i in
+    let stored = c.store_all-count.ensures.2 in
+    let table = c.args.table.now in
+    let n = c.args.n in
+    let i = c.loop-i.i in
     let told = rw c.row_in.ensures at c.row_agrees.ensures in
-    let test = row_test (take k.store_all-count.result k.store_all-count.new.keys) in
+    let test = row_test (take c.store_all-count.result c.store_all-count.new.keys) in
     let no : test (row_in table i) ≡ false = sym told ∙ c.if-not-row_agrees.true in
-    sym (agree_by_keys (rows_in table n) (rows_bytes table (λ j. omega (arith, known.type_inv.table j)) n)
+    sym (agree_by_keys (rows_in table n) (rows_bytes table (λ j. omega (arith, c.type_inv.table j)) n)
     ∙ rw (← stored) (every_no test (rows_in table n) (row_among table n i (omega arith)) no))
 
 pub loop-i-preserved : goal.loop-i-preserved
 loop-i-preserved c =
-    let k = c in
-    let s = k in
-    let table = s.args.table.now in
-    let i = k.loop-i.i in
+    let table = c.args.table.now in
+    let i = c.loop-i.i in
     let told = rw c.row_in.ensures at c.row_agrees.ensures in
-    let test = row_test (take k.store_all-count.result k.store_all-count.new.keys) in
+    let test = row_test (take c.store_all-count.result c.store_all-count.new.keys) in
     let yes : test (row_in table i) ≡ true = sym told ∙ c.if-not-row_agrees.false in
-    (omega arith, rw (add-one i, rows_more table i, every_snoc test (rows_in table i) (row_in table i), k.loop-i.invariant.1, yes))
+    (omega arith, rw (add-one i, rows_more table i, every_snoc test (rows_in table i) (row_in table i), c.loop-i.invariant.1, yes))
 
 pub returns : goal.returns
 returns c =
     let l = c.loop-i in
     let stored = c.store_all-count.ensures.2 in
-    let known = c in
-    let s = known in
-    let table = s.args.table.now in
-    let e : l.i ≡ s.args.n = omega arith in
-    sym (agree_by_keys (rows_in table s.args.n) (rows_bytes table (λ j. omega (arith, known.type_inv.table j)) s.args.n) ∙ rw (← stored, ← e) l.invariant.1)
+    let table = c.args.table.now in
+    let e : l.i ≡ c.args.n = omega arith in
+    sym (agree_by_keys (rows_in table c.args.n) (rows_bytes table (λ j. omega (arith, c.type_inv.table j)) c.args.n) ∙ rw (← stored, ← e) l.invariant.1)

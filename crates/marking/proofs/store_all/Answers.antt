@@ -26,15 +26,14 @@ store_marked-count-requires c =
 
 pub loop-i-preserved : goal.loop-i-preserved
 loop-i-preserved c =
-    let k = c in
-    let a = k.args in
-    let i = k.loop-i.i in
+    let a = c.args in
+    let i = c.loop-i.i in
     let table = a.table.now in (
       omega arith,
       c.store_marked-count.ensures.0,
-      omega (arith, c.store_marked-count.ensures.1, k.loop-i.invariant.2),
+      omega (arith, c.store_marked-count.ensures.1, c.loop-i.invariant.2),
       c.store_marked-count.ensures.2
-          ∙ rw (k.loop-i.invariant.3, c.row_in.ensures)
+          ∙ rw (c.loop-i.invariant.3, c.row_in.ensures)
           (sym (flat_map_snoc (marked_keys false) (rows_in table i) (row_in table i))
           ∙ ap (keys_marked (λ row. false)) (sym (rows_more table i) ∙ ap (rows_in table) (sym (add-one i)))),
     )

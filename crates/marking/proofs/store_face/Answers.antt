@@ -15,10 +15,9 @@ returns-then-not-mark c =
 
 pub returns : goal.returns
 returns c =
-    let s = c in
-    let a = s.args in
+    let a = c.args in
     let marked = c.if-not-mark.false in (
-      simp length-set s.requires.0,
+      simp length-set c.requires.0,
       omega arith,
       rw (marked, ← c.key_of.ensures) (stored_behind a.keys.now a.n c.key_of.result (omega arith)),
     )

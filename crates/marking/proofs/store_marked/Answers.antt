@@ -16,25 +16,19 @@ store_face-c-requires c =
 
 pub store_face-requires : goal.store_face-requires
 store_face-requires c =
-    let third = c in
-    let second = third in
-    let first = second in
-    (third.store_face-c.ensures.0, omega (arith, third.store_face-c.ensures.1, second.store_face-b.ensures.1, first.store_face-a.ensures.1))
+    (c.store_face-c.ensures.0, omega (arith, c.store_face-c.ensures.1, c.store_face-b.ensures.1, c.store_face-a.ensures.1))
 
 pub returns : goal.returns
 returns c =
-    let third = c in
-    let second = third in
-    let first = second in
-    let a = first.args in
+    let a = c.args in
     let row = a.row in
     let m = row.marks in
     let front = take a.n a.keys.now in
-    let one = first.store_face-a.ensures.2 in
-    let two = second.store_face-b.ensures.2 ∙ ap (λ xs. xs ++ key_if a.over m.psr (row.p, row.s, row.r)) one in
-    let three = third.store_face-c.ensures.2 ∙ ap (λ xs. xs ++ key_if a.over m.pqs (row.p, row.q, row.s)) two in
+    let one = c.store_face-a.ensures.2 in
+    let two = c.store_face-b.ensures.2 ∙ ap (λ xs. xs ++ key_if a.over m.psr (row.p, row.s, row.r)) one in
+    let three = c.store_face-c.ensures.2 ∙ ap (λ xs. xs ++ key_if a.over m.pqs (row.p, row.q, row.s)) two in
     let four = c.store_face.ensures.2 ∙ ap (λ xs. xs ++ key_if a.over m.prq (row.p, row.r, row.q)) three in (
       c.store_face.ensures.0,
-      omega (arith, c.store_face.ensures.1, third.store_face-c.ensures.1, second.store_face-b.ensures.1, first.store_face-a.ensures.1),
+      omega (arith, c.store_face.ensures.1, c.store_face-c.ensures.1, c.store_face-b.ensures.1, c.store_face-a.ensures.1),
       four ∙ keys_four a.over row front,
     )

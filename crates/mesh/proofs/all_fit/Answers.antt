@@ -27,17 +27,15 @@ returns-then-not-fits c =
 
 pub loop-i-preserved : goal.loop-i-preserved
 loop-i-preserved c =
-    let k = c in
-    let a = k.args in
-    let i = k.loop-i.i in
+    let a = c.args in
+    let i = c.loop-i.i in
     let e = ap (numbers_fit a.count) (sym c.row_in.ensures) ∙ sym c.fits.ensures
     ∙ c.if-not-fits.false in
     let table = a.table.now in
-    (omega arith, rw (add-one i, rows_more table i, every_snoc (numbers_fit a.count) (rows_in table i) (row_in table i), k.loop-i.invariant.1) e)
+    (omega arith, rw (add-one i, rows_more table i, every_snoc (numbers_fit a.count) (rows_in table i) (row_in table i), c.loop-i.invariant.1) e)
 
 pub returns : goal.returns
 returns c =
-    let k = c in
-    let a = k.args in
-    let e : k.loop-i.i ≡ a.n = omega arith in
-    sym (rw e at k.loop-i.invariant.1)
+    let a = c.args in
+    let e : c.loop-i.i ≡ a.n = omega arith in
+    sym (rw e at c.loop-i.invariant.1)

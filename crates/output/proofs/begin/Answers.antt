@@ -8,13 +8,9 @@ use Rattle.output.proofs.begin.Goals as goal
 
 pub slice_bounds-copy-end : goal.slice_bounds-copy-end
 slice_bounds-copy-end c =
-    let start = c in
-    omega (arith, (right_block start.args.block.now start.requires.0).size)
+    omega (arith, (right_block c.args.block.now c.requires.0).size)
 
 pub returns : goal.returns
 returns c =
-    let cleared = c in
-    let copied = cleared in
-    let start = copied in
-    front_cleared start.args.block.now start.args.out.now _ _ _ start.requires.0 start.requires.1
-    copied.copy.ensures cleared.clear.ensures refl
+    front_cleared c.args.block.now c.args.out.now _ _ _ c.requires.0 c.requires.1
+    c.copy.ensures c.clear.ensures refl

@@ -16,17 +16,15 @@ loop-i-init c = (omega arith, omega arith, (refl, with_none c.args.rows.now 0 re
 
 pub put_row-requires : goal.put_row-requires
 put_row-requires c =
-    let at = c in
-    let a = at.args in
-    let size = front_length a.x a.y a.z a.table.now a.rows.now at.loop-i.i at.loop-i.kept at.loop-i.rows at.loop-i.invariant.2
-    (omega (arith, at.loop-i.invariant.1)) in
+    let a = c.args in
+    let size = front_length a.x a.y a.z a.table.now a.rows.now c.loop-i.i c.loop-i.kept c.loop-i.rows c.loop-i.invariant.2
+    (omega (arith, c.loop-i.invariant.1)) in
     omega arith
 
 pub loop-i-preserved : goal.loop-i-preserved
 loop-i-preserved c =
-    let at = c in
-    let args = at.args in
-    let i = at.loop-i.i in
+    let args = c.args in
+    let i = c.loop-i.i in
     let stayed = c.row_stays.ensures in
     let row = c.row_in-row.ensures in
     let x = args.x in
@@ -36,24 +34,22 @@ loop-i-preserved c =
     let rest = args.rows.now in
     elim c.if-row_stays.branch [
       then-row_stays w ↦
-        let more = stays_more x y z table rest i at.loop-i.kept at.loop-i.rows at.loop-i.invariant.2 _ row _ stayed (omega arith)
+        let more = stays_more x y z table rest i c.loop-i.kept c.loop-i.rows c.loop-i.invariant.2 _ row _ stayed (omega arith)
             w.if-row_stays.true c.if-row_stays.rows c.if-row_stays.kept (w.rows-is ∙ w.put_row.ensures) w.kept-is in
         (omega arith, omega (arith, w.kept-is), more)
     | else-row_stays w ↦
-        let more = goes_more x y z table rest i at.loop-i.kept at.loop-i.rows at.loop-i.invariant.2 _ row _ stayed w.if-row_stays.false
+        let more = goes_more x y z table rest i c.loop-i.kept c.loop-i.rows c.loop-i.invariant.2 _ row _ stayed w.if-row_stays.false
             c.if-row_stays.rows c.if-row_stays.kept w.rows-is w.kept-is in
         (omega arith, omega (arith, w.kept-is), more)
     ]
 
 pub shape_of-rows : goal.shape_of-rows
 shape_of-rows c =
-    let at = c in
-    let a = at.args in
-    front_length a.x a.y a.z a.table.now a.rows.now at.loop-i.i at.loop-i.kept at.loop-i.rows at.loop-i.invariant.2
-    (omega (arith, at.loop-i.invariant.1))
+    let a = c.args in
+    front_length a.x a.y a.z a.table.now a.rows.now c.loop-i.i c.loop-i.kept c.loop-i.rows c.loop-i.invariant.2
+    (omega (arith, c.loop-i.invariant.1))
 
 pub returns : goal.returns
 returns c =
-    let at = c in
-    let e : at.loop-i.i ≡ at.args.n = omega arith in
-    rw e at at.loop-i.invariant.2
+    let e : c.loop-i.i ≡ c.args.n = omega arith in
+    rw e at c.loop-i.invariant.2

@@ -9,42 +9,36 @@ use Rattle.patch.proofs.summary.Goals as goal
 
 pub returns-in-Refused : goal.returns-in-Refused
 returns-in-Refused c =
-    let k = c in
-    summed_refused k.args.block.now _ _ k.opening-opened.ensures c.in-Refused.is
+    summed_refused c.args.block.now _ _ c.opening-opened.ensures c.in-Refused.is
 
 pub bounds-block-1 : goal.bounds-block-1
 bounds-block-1 c =
-    let k = c in
-    let block = k.args.block.now in
-    omega (arith, block_size block (handed_done (open_answer block) _ k.opening-opened.ensures c.in_default.is))
+    let block = c.args.block.now in
+    omega (arith, block_size block (handed_done (open_answer block) _ c.opening-opened.ensures c.in_default.is))
 
 pub overflow_cast-count : goal.overflow_cast-count
 overflow_cast-count c = omega (arith, c.type_inv.block 1)
 
 pub bounds-block-2 : goal.bounds-block-2
 bounds-block-2 c =
-    let k = c in
-    let block = k.args.block.now in
-    omega (arith, block_size block (handed_done (open_answer block) _ k.opening-opened.ensures c.in_default.is))
+    let block = c.args.block.now in
+    omega (arith, block_size block (handed_done (open_answer block) _ c.opening-opened.ensures c.in_default.is))
 
 pub overflow_cast-n : goal.overflow_cast-n
 overflow_cast-n c = omega (arith, c.type_inv.block 2)
 
 pub slice_bounds-summary_of-end : goal.slice_bounds-summary_of-end
 slice_bounds-summary_of-end c =
-    let k = c in
-    let block = k.args.block.now in
-    omega (arith, block_size block (handed_done (open_answer block) _ k.opening-opened.ensures c.in_default.is))
+    let block = c.args.block.now in
+    omega (arith, block_size block (handed_done (open_answer block) _ c.opening-opened.ensures c.in_default.is))
 
 pub summary_of-requires : goal.summary_of-requires
 summary_of-requires c =
-    let k = c in
-    let block = k.args.block.now in
-    opens_measured block (handed_done (open_answer block) _ k.opening-opened.ensures c.in_default.is)
+    let block = c.args.block.now in
+    opens_measured block (handed_done (open_answer block) _ c.opening-opened.ensures c.in_default.is)
 
 pub returns : goal.returns
 returns c =
-    let k = c in
-    let block = k.args.block.now in
-    summed_done block _ (handed_done (open_answer block) _ k.opening-opened.ensures
+    let block = c.args.block.now in
+    summed_done block _ (handed_done (open_answer block) _ c.opening-opened.ensures
     c.in_default.is) c.summary_of.ensures

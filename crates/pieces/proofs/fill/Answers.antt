@@ -36,8 +36,7 @@ bounds-v-m c =
 
 pub cell_at-requires : goal.cell_at-requires
 cell_at-requires c =
-    let u = c in
-    let fillable = u.requires in
+    let fillable = c.requires in
     (omega arith, omega (arith, size_is fillable, fillable.long), omega (arith, size_is fillable, fillable.short))
 
 pub store-requires : goal.store-requires

@@ -6,10 +6,6 @@ use Rattle.replacement.proofs.best_way.Goals as goal
 
 pub returns : goal.returns
 returns c =
-    let read = c in
-    let place = read in
-    let filled = place in
-    let start = filled in
-    let args = start.args in
+    let args = c.args in
     let its = site_in args.coordinates.now args.count args.table.now args.n args.a args.b in
-    way_read {its = its} start.requires.ready.long filled.fill-pieces.ensures _ _ place.cell_at-at.ensures.0 read.best_at-best.ensures
+    way_read {its = its} c.requires.ready.long c.fill-pieces.ensures _ _ c.cell_at-at.ensures.0 c.best_at-best.ensures

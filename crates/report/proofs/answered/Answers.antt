@@ -13,7 +13,6 @@ put_answer-requires c = tt
 
 pub returns : goal.returns
 returns c =
-    let start = c in
-    let answer = start.args.answer in
+    let answer = c.args.answer in
     whole (answer_line answer) (put_first c.no_text.ensures c.put_answer.ensures)
-    (omega (arith, answer_size answer (omega (arith, start.ranges.answer.fits))))
+    (omega (arith, answer_size answer (omega (arith, c.ranges.answer.fits))))

@@ -17,9 +17,7 @@ answered-requires c = tt
 
 pub returns-in_default : goal.returns-in_default
 returns-in_default c =
-    let first = c in
-    let start = first in
-    absurd (never_refused _ start.requires.0 first.summary-given.ensures c.in_default.is)
+    absurd (never_refused _ c.requires.0 c.summary-given.ensures c.in_default.is)
 
 pub summary-written-requires : goal.summary-written-requires
 summary-written-requires c = tt
@@ -32,9 +30,7 @@ answered-requires-in_default-written c = tt
 
 pub returns-in_default-written : goal.returns-in_default-written
 returns-in_default-written c =
-    let second = c in
-    let start = second in
-    absurd (never_refused _ start.requires.1 second.summary-written.ensures c.in_default-written.is)
+    absurd (never_refused _ c.requires.1 c.summary-written.ensures c.in_default-written.is)
 
 pub no_text-requires : goal.no_text-requires
 no_text-requires c = tt
@@ -65,14 +61,8 @@ put_summary-requires c = tt
 pub returns : goal.returns
 unfolding line text
 returns c =
-    let before = c in
-    let answer = before in
-    let told = answer in
-    let second = told in
-    let first = second in
-    let start = first in
-    let before_is = summary_is_lem _ start.requires.0 first.summary-given.ensures second.in-Summary.is in
-    let after_is = summary_is_lem _ start.requires.1 second.summary-written.ensures told.in-Summary-written.is in
-    let one = then_put before.put_word.ensures before.put_summary-first.ensures in
+    let before_is = summary_is_lem _ c.requires.0 c.summary-given.ensures c.in-Summary.is in
+    let after_is = summary_is_lem _ c.requires.1 c.summary-written.ensures c.in-Summary-written.is in
+    let one = then_put c.put_word.ensures c.put_summary-first.ensures in
     let two = then_put c.put_word-2.ensures c.put_summary.ensures in
-    rw (← before_is, ← after_is) (put_first answer.no_text.ensures (then_put answer.put_answer.ensures (then_put one two)))
+    rw (← before_is, ← after_is) (put_first c.no_text.ensures (then_put c.put_answer.ensures (then_put one two)))

@@ -7,9 +7,6 @@ use Rattle.report.proofs.flipped.Goals as goal
 
 pub returns : goal.returns
 returns c =
-    let first = c in
-    let known = first in
-    let start = known in
-    let a = start.args in
-    whole (flip_lines a.block.now a.n a.output.now) (c.put_last_rows.ensures.put _ first.first_lines.ensures)
-    (flip_short a.block.now a.output.now known.type_inv.output a.n start.requires.0 start.requires.1)
+    let a = c.args in
+    whole (flip_lines a.block.now a.n a.output.now) (c.put_last_rows.ensures.put _ c.first_lines.ensures)
+    (flip_short a.block.now a.output.now c.type_inv.output a.n c.requires.0 c.requires.1)

@@ -6,15 +6,14 @@ use borrow.Author.Rules.{rules}
 use Rattle.report.proofs.put_last_rows.Goals as goal
 
 pub bounds-output-2 : goal.bounds-output-2
-bounds-output-2 c = let start = c in omega (arith, (right_block start.args.output.now start.requires.0).size)
+bounds-output-2 c = omega (arith, (right_block c.args.output.now c.requires.0).size)
 
 pub overflow_cast-rows : goal.overflow_cast-rows
 overflow_cast-rows c = omega (arith, c.type_inv.output 2)
 
 pub put_rows-requires : goal.put_rows-requires
 put_rows-requires c =
-    let start = c in
-    let right = right_block start.args.output.now start.requires.0 in
+    let right = right_block c.args.output.now c.requires.0 in
     (omega arith, omega (arith, right.body.few_rows, right.size))
 
 pub returns : goal.returns

@@ -25,17 +25,15 @@ loop-i-init c = (omega arith, refl)
 
 pub loop-i-preserved : goal.loop-i-preserved
 loop-i-preserved c =
-    let at = c in
-    let l : length at.args.v ≡ 61 = search rules in (
+    let l : length c.args.v ≡ 61 = search rules in (
       omega arith,
-      ap (λ r. set r at.loop-i.i (get_or at.args.v at.loop-i.i 0)) at.loop-i.invariant.1
-          ∙ copied at.args.v at.loop-i.i (omega arith) (omega arith),
+      ap (λ r. set r c.loop-i.i (get_or c.args.v c.loop-i.i 0)) c.loop-i.invariant.1
+          ∙ copied c.args.v c.loop-i.i (omega arith) (omega arith),
     )
 
 pub returns : goal.returns
 returns c =
-    let at = c in
-    let l : length at.args.v ≡ 61 = search rules in
-    let n = length-take-le at.args.m at.args.v (omega arith) in
-    let i : at.loop-i.i ≡ at.args.m = omega arith in
-    rw (at.loop-i.invariant.1, i, n)
+    let l : length c.args.v ≡ 61 = search rules in
+    let n = length-take-le c.args.m c.args.v (omega arith) in
+    let i : c.loop-i.i ≡ c.args.m = omega arith in
+    rw (c.loop-i.invariant.1, i, n)

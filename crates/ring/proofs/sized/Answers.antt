@@ -9,26 +9,23 @@ use Rattle.ring.proofs.sized.Goals as goal
 pub returns-then-trail-lt-MIN_RING : goal.returns-then-trail-lt-MIN_RING
 unfolding sized_of
 returns-then-trail-lt-MIN_RING c =
-    let start = c in
-    let trail = start.args.trail in
-    let size = length-take-le trail.m trail.v start.requires in
+    let trail = c.args.trail in
+    let size = length-take-le trail.m trail.v c.requires in
     c.refused.ensures ∙ rw (size, lt-ltb trail.m min_ring c.if-trail-lt-MIN_RING.true)
 
 pub returns-then-trail-gt-MAX_RING : goal.returns-then-trail-gt-MAX_RING
 unfolding sized_of
 returns-then-trail-gt-MAX_RING c =
-    let start = c in
-    let trail = start.args.trail in
-    let size = length-take-le trail.m trail.v start.requires in
+    let trail = c.args.trail in
+    let size = length-take-le trail.m trail.v c.requires in
     c.refused-then-trail-gt-MAX_RING.ensures
     ∙ rw (size, le-ltb trail.m min_ring c.if-trail-lt-MIN_RING.false, lt-ltb max_ring trail.m c.if-trail-gt-MAX_RING.true)
 
 pub returns : goal.returns
 unfolding sized_of
 returns c =
-    let start = c in
-    let trail = start.args.trail in
-    let size = length-take-le trail.m trail.v start.requires in
+    let trail = c.args.trail in
+    let size = length-take-le trail.m trail.v c.requires in
     rw (
       c.ring_of.ensures,
       size,

@@ -19,6 +19,5 @@ bounds-table-at-5 c = simp length-set (omega arith)
 
 pub returns : goal.returns
 returns c =
-    let start = c in
-    let a = start.args in
-    with_one_lem a.table.now a.i a.row c.label_byte-byte.result c.label_byte-byte.ensures start.requires
+    let a = c.args in
+    with_one_lem a.table.now a.i a.row c.label_byte-byte.result c.label_byte-byte.ensures c.requires

@@ -5,6 +5,5 @@ use Rattle.rows.proofs.row_in.Goals as goal
 
 pub returns : goal.returns
 returns c =
-    let read = c in
-    let a = read.args in
-    row_is a.table.now a.i read.labels_of-labels.result read.labels_of-labels.ensures
+    let a = c.args in
+    row_is a.table.now a.i c.labels_of-labels.result c.labels_of-labels.ensures

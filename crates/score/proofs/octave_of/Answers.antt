@@ -24,19 +24,17 @@ loop-exponent-init c = (refl, omega arith, omega arith)
 
 pub returns-then-half-n : goal.returns-then-half-n
 returns-then-half-n c =
-    let l = c in
-    let a = l.args in
-    let e = l.loop-exponent.exponent in
-    le_antisymm l.loop-exponent.invariant.1
-    (octave_below a.n a.total e (above a.n a.total e l.loop-exponent.half l.loop-exponent.invariant.0 c.if-half-n.true))
+    let a = c.args in
+    let e = c.loop-exponent.exponent in
+    le_antisymm c.loop-exponent.invariant.1
+    (octave_below a.n a.total e (above a.n a.total e c.loop-exponent.half c.loop-exponent.invariant.0 c.if-half-n.true))
 
 pub loop-exponent-preserved : goal.loop-exponent-preserved
 loop-exponent-preserved c =
-    let l = c in
-    let a = l.args in
-    let e = l.loop-exponent.exponent in
-    let half = l.loop-exponent.half in
-    let is = l.loop-exponent.invariant.0 in
+    let a = c.args in
+    let e = c.loop-exponent.exponent in
+    let half = c.loop-exponent.half in
+    let is = c.loop-exponent.invariant.0 in
     let next = octave_largest a.n a.total (suc e) (omega arith) (reached a.n a.total e half is c.if-half-n.false) in
     (halved a.n a.total e half is, omega arith, omega arith)
 

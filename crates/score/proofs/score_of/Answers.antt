@@ -15,16 +15,14 @@ loop-low-init c =
 
 pub loop-low-preserved-then-reaches : goal.loop-low-preserved-then-reaches
 loop-low-preserved-then-reaches c =
-    let l = c in
-    let a = l.args in
-    let middle = (l.loop-low.low + l.loop-low.high) / 2 in
+    let a = c.args in
+    let middle = (c.loop-low.low + c.loop-low.high) / 2 in
     let reached = leb-true _ _ (sym c.reaches.ensures ∙ c.if-reaches.true) in
     (size_score_largest a.num a.den middle (omega arith) reached, omega arith, omega arith)
 
 pub loop-low-preserved : goal.loop-low-preserved
 loop-low-preserved c =
-    let l = c in
-    let a = l.args in
-    let middle = (l.loop-low.low + l.loop-low.high) / 2 in
+    let a = c.args in
+    let middle = (c.loop-low.low + c.loop-low.high) / 2 in
     let above = leb-false _ _ (sym c.reaches.ensures ∙ c.if-reaches.false) in
     (omega arith, size_score_below a.num a.den middle above, omega arith)

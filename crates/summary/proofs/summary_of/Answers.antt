@@ -24,30 +24,26 @@ loop-i-init c = (omega arith, refl)
 
 pub row_quality-requires : goal.row_quality-requires
 row_quality-requires c =
-    let l = c in
-    rw c.row_in.ensures (measured_row l.requires l.loop-i.i (omega arith))
+    rw c.row_in.ensures (measured_row c.requires c.loop-i.i (omega arith))
 
 pub with-tally-requires : goal.with-tally-requires
 with-tally-requires c =
-    let l = c in
-    rw (l.loop-i.invariant.1, c.row_quality.ensures, c.row_in.ensures)
-    (unwrapped l.requires (all_bytes _ l.type_inv.coordinates) l.loop-i.i (omega arith))
+    rw (c.loop-i.invariant.1, c.row_quality.ensures, c.row_in.ensures)
+    (unwrapped c.requires (all_bytes _ c.type_inv.coordinates) c.loop-i.i (omega arith))
 
 pub loop-i-preserved : goal.loop-i-preserved
 loop-i-preserved c =
-    let l = c in
-    let a = l.args in (
+    let a = c.args in (
       omega arith,
       c.with-tally.ensures
-          ∙ rw (l.loop-i.invariant.1, c.row_quality.ensures, c.row_in.ensures, add-one)
-          (row_tally (row_quality (points_in a.coordinates.now a.count)) a.table.now l.loop-i.i),
+          ∙ rw (c.loop-i.invariant.1, c.row_quality.ensures, c.row_in.ensures, add-one)
+          (row_tally (row_quality (points_in a.coordinates.now a.count)) a.table.now c.loop-i.i),
     )
 
 pub returns : goal.returns
 returns c =
-    let l = c in
-    let a = l.args in
-    let e : l.loop-i.i ≡ a.n = omega arith in
+    let a = c.args in
+    let e : c.loop-i.i ≡ a.n = omega arith in
     c.summary.ensures
-    ∙ ap tallied (rw e at l.loop-i.invariant.1)
+    ∙ ap tallied (rw e at c.loop-i.invariant.1)
     ∙ summary_is_lem (patch_in a.coordinates.now a.count a.table.now a.n)

@@ -5,5 +5,4 @@ use Rattle.sumpnewt.proofs.sumpnewt_flip.Goals as goal
 
 pub returns : goal.returns
 returns c =
-    let call = c in
-    (handed _ _ _ c.number.ensures call.flip-answer.ensures.0, call.flip-answer.ensures.1)
+    record { answer = handed _ _ _ c.number.ensures c.flip-answer.ensures.answer; bytes = c.flip-answer.ensures.bytes }

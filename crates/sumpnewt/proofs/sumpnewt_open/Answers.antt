@@ -8,7 +8,6 @@ use Rattle.sumpnewt.proofs.sumpnewt_open.Goals as goal
 
 pub returns : goal.returns
 returns c =
-    let opened = c in
     c.number.ensures
-    ∙ ap (λ (gives : Opened). number_of gives.answer) opened.open-opened.ensures
-    ∙ open_number opened.args.block.now
+    ∙ ap (λ (gives : Opened). number_of gives.answer) c.open-opened.ensures
+    ∙ open_number c.args.block.now

@@ -5,8 +5,8 @@ use Rattle.sumpnewt.proofs.sumpnewt_page.Goals as goal
 
 pub returns : goal.returns
 returns c =
-    let stored = c in
-    let call = stored in
-    let args = call.args in
-    page_handed args.block.now args.row.now args.a args.b call.page.ensures stored.store_page.ensures.0
-    stored.store_page.ensures.1
+    let args = c.args in
+    let both =
+    page_handed args.block.now args.row.now args.a args.b c.page.ensures c.store_page.ensures.answer
+    c.store_page.ensures.elements in
+    record { answer = both.0; elements = both.1 }

@@ -5,6 +5,5 @@ use Rattle.sumpnewt.proofs.sumpnewt_remove.Goals as goal
 
 pub returns : goal.returns
 returns c =
-    let call = c in
-    let args = call.args in
-    (removal_handed _ args.block.now args.out.now args.a args.b _ c.number.ensures call.remove-removed.ensures.0, call.remove-removed.ensures.1)
+    let args = c.args in
+    record { answer = removal_handed _ args.block.now args.out.now args.a args.b _ c.number.ensures c.remove-removed.ensures.gives; bytes = c.remove-removed.ensures.bytes }

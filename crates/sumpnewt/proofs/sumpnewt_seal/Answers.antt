@@ -5,5 +5,4 @@ use Rattle.sumpnewt.proofs.sumpnewt_seal.Goals as goal
 
 pub returns : goal.returns
 returns c =
-    let call = c in
-    (handed _ _ _ c.number.ensures call.seal-answer.ensures.0, call.seal-answer.ensures.1)
+    record { answer = handed _ _ _ c.number.ensures c.seal-answer.ensures.answer; bytes = c.seal-answer.ensures.bytes }

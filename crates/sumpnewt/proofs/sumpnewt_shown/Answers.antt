@@ -5,5 +5,4 @@ use Rattle.sumpnewt.proofs.sumpnewt_shown.Goals as goal
 
 pub returns : goal.returns
 returns c =
-    let call = c in
-    (handed _ _ _ c.number.ensures call.shown-answer.ensures.0, call.shown-answer.ensures.1)
+    record { answer = handed _ _ _ c.number.ensures c.shown-answer.ensures.answer; elements = c.shown-answer.ensures.elements }

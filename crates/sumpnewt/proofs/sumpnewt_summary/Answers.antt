@@ -5,7 +5,8 @@ use Rattle.sumpnewt.proofs.sumpnewt_summary.Goals as goal
 
 pub returns : goal.returns
 returns c =
-    let call = c in
-    let args = call.args in
+    let args = c.args in
     let stored = c.store_summary in
-    summary_handed args.block.now args.out.now call.summary.ensures stored.ensures.0 stored.ensures.1
+    let both =
+    summary_handed args.block.now args.out.now c.summary.ensures stored.ensures.answer stored.ensures.elements in
+    record { answer = both.0; elements = both.1 }

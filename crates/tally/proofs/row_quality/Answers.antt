@@ -6,10 +6,5 @@ use Rattle.tally.proofs.row_quality.Goals as goal
 
 pub returns : goal.returns
 returns c =
-    let s = c in
-    let r = s in
-    let q = r in
-    let p = q in
-    let start = p in
     c.of.ensures
-    ∙ row_quality_from start.requires p.point_in-p.ensures q.point_in-q.ensures r.point_in-r.ensures s.point_in-s.ensures
+    ∙ row_quality_from c.requires c.point_in-p.ensures c.point_in-q.ensures c.point_in-r.ensures c.point_in-s.ensures

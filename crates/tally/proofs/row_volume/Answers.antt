@@ -7,10 +7,5 @@ use Rattle.tally.proofs.row_volume.Goals as goal
 
 pub returns : goal.returns
 returns c =
-    let s = c in
-    let r = s in
-    let q = r in
-    let p = q in
-    let start = p in
     read c.volume.type_inv c.volume.ensures.0
-    ∙ row_D_from start.requires p.point_in-p.ensures q.point_in-q.ensures r.point_in-r.ensures s.point_in-s.ensures
+    ∙ row_D_from c.requires c.point_in-p.ensures c.point_in-q.ensures c.point_in-r.ensures c.point_in-s.ensures

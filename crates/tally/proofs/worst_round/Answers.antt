@@ -22,35 +22,31 @@ loop-k-init c = (omega arith, refl)
 
 pub row_quality-requires : goal.row_quality-requires
 row_quality-requires c =
-    let l = c in
-    rw c.row_in-row.ensures (measured_row l.requires l.loop-k.k (omega arith))
+    rw c.row_in-row.ensures (measured_row c.requires c.loop-k.k (omega arith))
 
 pub loop-k-preserved : goal.loop-k-preserved
 loop-k-preserved c =
-    let k = c in
-    let l = k in
-    let a = l.args in
-    let i = l.loop-k.k in
+    let a = c.args in
+    let i = c.loop-k.k in
     let table = a.table.now in
     let f = row_quality (points_in a.coordinates.now a.count) in
     let p = holds_edge a.a a.b in
-    let is = k.row_in-row.ensures in
-    let test : p (row_in table i) ≡ k.holds_edge.result = ap p (sym is) ∙ sym k.holds_edge.ensures in (
+    let is = c.row_in-row.ensures in
+    let test : p (row_in table i) ≡ c.holds_edge.result = ap p (sym is) ∙ sym c.holds_edge.ensures in (
       omega arith,
       elim c.if-holds_edge.branch [
         then-holds_edge w ↦
           w.met-is ∙ w.with-met.ensures
-          ∙ rw (l.loop-k.invariant.1, w.row_quality.ensures, is, add-one) (passing_met f table i p (test ∙ w.if-holds_edge.true))
-      | else-holds_edge w ↦ w.met-is ∙ l.loop-k.invariant.1 ∙ rw add-one (other_met f table i p (test ∙ w.if-holds_edge.false))
+          ∙ rw (c.loop-k.invariant.1, w.row_quality.ensures, is, add-one) (passing_met f table i p (test ∙ w.if-holds_edge.true))
+      | else-holds_edge w ↦ w.met-is ∙ c.loop-k.invariant.1 ∙ rw add-one (other_met f table i p (test ∙ w.if-holds_edge.false))
       ],
     )
 
 pub returns : goal.returns
 returns c =
-    let l = c in
-    let a = l.args in
-    let e : l.loop-k.k ≡ a.n = omega arith in
+    let a = c.args in
+    let e : c.loop-k.k ≡ a.n = omega arith in
     c.or_zero.ensures
-    ∙ ap or_zero (rw e at l.loop-k.invariant.1)
+    ∙ ap or_zero (rw e at c.loop-k.invariant.1)
     ∙ or_zero_of (worst (map (row_quality (points_in a.coordinates.now a.count))
     (those (holds_edge a.a a.b) (rows_in a.table.now a.n))))

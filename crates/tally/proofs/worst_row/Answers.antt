@@ -31,25 +31,22 @@ loop-i-init c = (omega arith, omega arith, rw (c.row_quality-worst.ensures, c.ro
 
 pub row_quality-requires : goal.row_quality-requires
 row_quality-requires c =
-    let l = c in
-    rw c.row_in-in-loop-i.ensures (measured_row l.requires l.loop-i.i (omega arith))
+    rw c.row_in-in-loop-i.ensures (measured_row c.requires c.loop-i.i (omega arith))
 
 pub loop-i-preserved : goal.loop-i-preserved
 loop-i-preserved c =
-    let l = c in
-    let a = l.args in
+    let a = c.args in
     let f = row_quality (points_in a.coordinates.now a.count) in (
       omega arith,
       omega arith,
       ap Worst c.worse_of-worst.ensures
-          ∙ ap (λ kept. worst_with kept c.row_quality.result) l.loop-i.invariant.2
-          ∙ rw (c.row_quality.ensures, c.row_in-in-loop-i.ensures, add-one) (row_met f a.table.now l.loop-i.i),
+          ∙ ap (λ kept. worst_with kept c.row_quality.result) c.loop-i.invariant.2
+          ∙ rw (c.row_quality.ensures, c.row_in-in-loop-i.ensures, add-one) (row_met f a.table.now c.loop-i.i),
     )
 
 pub returns : goal.returns
 returns c =
-    let l = c in
-    let a = l.args in
-    let e : l.loop-i.i ≡ a.n = omega arith in
-    ap or_zero (rw e at l.loop-i.invariant.2)
+    let a = c.args in
+    let e : c.loop-i.i ≡ a.n = omega arith in
+    ap or_zero (rw e at c.loop-i.invariant.2)
     ∙ or_zero_of (worst (map (row_quality (points_in a.coordinates.now a.count)) (rows_in a.table.now a.n)))

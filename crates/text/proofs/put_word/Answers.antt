@@ -15,14 +15,12 @@ loop-i-init c = (omega arith, search rules, none_put _)
 
 pub loop-i-preserved : goal.loop-i-preserved
 loop-i-preserved c =
-    let l = c in
-    let word = l.args.word.now in
-    let h : l.loop-i.i < length word = omega arith in
-    (omega arith, refl, rw (add-one l.loop-i.i, take-suc word l.loop-i.i 0 h) (then_put l.loop-i.invariant.2 c.put_byte-longer.ensures))
+    let word = c.args.word.now in
+    let h : c.loop-i.i < length word = omega arith in
+    (omega arith, refl, rw (add-one c.loop-i.i, take-suc word c.loop-i.i 0 h) (then_put c.loop-i.invariant.2 c.put_byte-longer.ensures))
 
 pub returns : goal.returns
 returns c =
-    let l = c in
-    let word = l.args.word.now in
-    let e : l.loop-i.i ≡ length word = omega arith in
-    rw (e, take-length) at l.loop-i.invariant.2
+    let word = c.args.word.now in
+    let e : c.loop-i.i ≡ length word = omega arith in
+    rw (e, take-length) at c.loop-i.invariant.2

@@ -7,11 +7,8 @@ use Rattle.volume.proofs.determinant.Goals as goal
 
 pub returns : goal.returns
 returns c =
-    let m3 = c in
-    let m2 = m3 in
-    let m1 = m2 in
-    let n = m1.args in
-    let f = m1.ranges in
+    let n = c.args in
+    let f = c.ranges in
     read c.expanded.type_inv c.expanded.ensures
     ∙ determinant_from
     (n.a, n.b, n.c)
@@ -26,6 +23,6 @@ returns c =
     (to_z-of_z f.g)
     (to_z-of_z f.h)
     (to_z-of_z f.i)
-    (read m1.minor-x.type_inv m1.minor-x.ensures.0)
-    (read m2.minor-y.type_inv m2.minor-y.ensures.0)
-    (read m3.minor-z.type_inv m3.minor-z.ensures.0)
+    (read c.minor-x.type_inv c.minor-x.ensures.0)
+    (read c.minor-y.type_inv c.minor-y.ensures.0)
+    (read c.minor-z.type_inv c.minor-z.ensures.0)

@@ -12,10 +12,9 @@ returns c =
     let qr = c.squared_length-4.ensures in
     let ps = c.squared_length-3.ensures in
     let pr = c.squared_length-2.ensures in
-    let first = c in
-    let pq = first.squared_length.ensures in
-    let a = first.args in
-    let bytes = first.well_formed in
+    let pq = c.squared_length.ensures in
+    let a = c.args in
+    let bytes = c.well_formed in
     let value = S_from a.p a.q a.r a.s pq.0 pr.0 ps.0 qr.0 qs.0 rs.0 in (
       value,
       rw value

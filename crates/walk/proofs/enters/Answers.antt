@@ -17,20 +17,17 @@ loop-i-init c = (omega arith, refl, refl)
 
 pub returns-then-v-links : goal.returns-then-v-links
 returns-then-v-links c =
-    let at = c in
-    let d = ends_drop at.args.links at.loop-i.i (omega arith) in
-    sym (sym at.loop-i.invariant.2 ∙ any_here (eqb at.args.v) d (eq-eqb _ _ c.if-v-links.true))
+    let d = ends_drop c.args.links c.loop-i.i (omega arith) in
+    sym (sym c.loop-i.invariant.2 ∙ any_here (eqb c.args.v) d (eq-eqb _ _ c.if-v-links.true))
 
 pub loop-i-preserved : goal.loop-i-preserved
 loop-i-preserved c =
-    let at = c in
-    let d = ends_drop at.args.links at.loop-i.i (omega arith) in
-    (omega arith, refl, rw add-one (sym (any_later (eqb at.args.v) d (ne_eqb _ _ c.if-v-links.false)) ∙ at.loop-i.invariant.2))
+    let d = ends_drop c.args.links c.loop-i.i (omega arith) in
+    (omega arith, refl, rw add-one (sym (any_later (eqb c.args.v) d (ne_eqb _ _ c.if-v-links.false)) ∙ c.loop-i.invariant.2))
 
 pub returns : goal.returns
 unfolding any
 returns c =
-    let at = c in
-    let all = ends (links_in at.args.links) in
-    let d = drop_of_length-le all {i = at.loop-i.i} (omega (arith, ends_length at.args.links)) in
-    sym (sym at.loop-i.invariant.2 ∙ ap (λ ns. has ns at.args.v) d)
+    let all = ends (links_in c.args.links) in
+    let d = drop_of_length-le all {i = c.loop-i.i} (omega (arith, ends_length c.args.links)) in
+    sym (sym c.loop-i.invariant.2 ∙ ap (λ ns. has ns c.args.v) d)

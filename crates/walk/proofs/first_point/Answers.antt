@@ -20,9 +20,8 @@ loop-i-init c = (omega arith, refl, λ k h. absurd (omega arith))
 
 pub returns-then-not-enters : goal.returns-then-not-enters
 returns-then-not-enters c =
-    let at = c in
-    let links = at.args.links in
-    let i = at.loop-i.i in
+    let links = c.args.links in
+    let i = c.loop-i.i in
     let all = starts (links_in links) in
     let start = subst (λ v. Memᴰ v all) (starts_at links i (omega arith)) (at_in all i 0 (omega (arith, starts_length links))) in
     let asked = c.enters in
@@ -31,18 +30,16 @@ returns-then-not-enters c =
 
 pub loop-i-preserved : goal.loop-i-preserved
 loop-i-preserved c =
-    let at = c in
-    let links = at.args.links in
+    let links = c.args.links in
     let asked = c.enters in
-    let entered = has_e (ends (links_in links)) (get_or links.starts at.loop-i.i 0)
+    let entered = has_e (ends (links_in links)) (get_or links.starts c.loop-i.i 0)
     (is_yes _ (sym asked.ensures ∙ c.if-not-enters.false)) in
-    (omega arith, refl, below_more _ _ at.loop-i.invariant.2 entered)
+    (omega arith, refl, below_more _ _ c.loop-i.invariant.2 entered)
 
 pub returns : goal.returns
 returns c =
-    let at = c in
-    let links = at.args.links in
+    let links = c.args.links in
     starts_smallest (links_in links) c.smallest_start.ensures (λ x m.
     let (k, h, e) = in_at (starts (links_in links)) 0 m in
     let low : k < links.n = omega (arith, starts_length links) in
-    subst (λ v. Memᴰ v (ends (links_in links))) (sym (starts_at links k low) ∙ e) (at.loop-i.invariant.2 k (omega arith)))
+    subst (λ v. Memᴰ v (ends (links_in links))) (sym (starts_at links k low) ∙ e) (c.loop-i.invariant.2 k (omega arith)))

@@ -22,32 +22,30 @@ loop-i-init c = (omega arith, refl, (0, omega arith, refl), first_below c.args.l
 
 pub loop-i-preserved : goal.loop-i-preserved
 loop-i-preserved c =
-    let at = c in
-    let seen = at.loop-i.invariant.3 in
+    let seen = c.loop-i.invariant.3 in
     elim c.if-links-i.branch [
       | then-links-i w ↦ (
         omega arith,
         refl,
-        (at.loop-i.i, omega arith, sym w.least-is),
+        (c.loop-i.i, omega arith, sym w.least-is),
         below_more _ _ (λ k h. omega (arith, seen k h, w.if-links-i.true, w.least-is)) (omega (arith, w.least-is)),
       )
       | else-links-i w ↦ (
         omega arith,
         refl,
-        rw w.least-is at.loop-i.invariant.2,
+        rw w.least-is c.loop-i.invariant.2,
         below_more _ _ (λ k h. omega (arith, seen k h, w.least-is)) (omega (arith, w.if-links-i.false, w.least-is)),
       )
     ]
 
 pub returns : goal.returns
 returns c =
-    let at = c in
-    let links = at.args.links in
-    let (j, h, e) = at.loop-i.invariant.2 in
-    smallest_is (starts (links_in links)) at.loop-i.least
+    let links = c.args.links in
+    let (j, h, e) = c.loop-i.invariant.2 in
+    smallest_is (starts (links_in links)) c.loop-i.least
     (subst (λ n. Memᴰ n (starts (links_in links))) (starts_at links j h
     ∙ e) (at_in (starts (links_in links)) j 0 (omega (arith, starts_length links))))
     (λ n m.
     let (k, l, f) = in_at (starts (links_in links)) 0 m in
     let b : k < links.n = omega (arith, starts_length links) in
-    rw (sym (starts_at links k b) ∙ f) at (at.loop-i.invariant.3 k (omega arith)))
+    rw (sym (starts_at links k b) ∙ f) at (c.loop-i.invariant.3 k (omega arith)))

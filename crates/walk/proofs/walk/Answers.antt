@@ -44,63 +44,57 @@ loop-i-init c = (refl, refl, refl, omega arith, refl)
 
 pub row_in-row-requires : goal.row_in-row-requires
 row_in-row-requires c =
-    let inner = c in
-    place_inside inner.requires inner.loop-i.i inner.loop-i-test.true
+    place_inside c.requires c.loop-i.i c.loop-i-test.true
 
 pub link_of-link-requires : goal.link_of-link-requires
 link_of-link-requires c =
-    let inner = c in
     rw c.row_in-row.ensures
-    (place_linked inner.requires inner.loop-i.i inner.loop-i-test.true)
+    (place_linked c.requires c.loop-i.i c.loop-i-test.true)
 
 pub returns-then-here-start : goal.returns-then-here-start
 returns-then-here-start c =
-    let at = c in
-    let inv = at.loop-i.invariant in
-    let out = at.walk.invariant in
-    let links = at.args.links in
-    let start = at.args.start in
-    let kept = place_link at.requires at.loop-i.i at.loop-i-test.true c.row_in-row.ensures c.link_of-link.ensures in
+    let inv = c.loop-i.invariant in
+    let out = c.walk.invariant in
+    let links = c.args.links in
+    let start = c.args.start in
+    let kept = place_link c.requires c.loop-i.i c.loop-i-test.true c.row_in-row.ensures c.link_of-link.ensures in
     -- the row that is read leads where the step goes
-    let step : next (links_in links) at.loop-i.here ≡ some c.link_of-link.result.w =
-    inv.4 ∙ next_here (in_drop links at.loop-i.i at.loop-i-test.true) c.if-here-links.true
+    let step : next (links_in links) c.loop-i.here ≡ some c.link_of-link.result.w =
+    inv.4 ∙ next_here (in_drop links c.loop-i.i c.loop-i-test.true) c.if-here-links.true
     ∙ ap some (sym (ap (λ (l : Link). l.1) kept)) in
     let so_far = inside (links_in links) start links.n inv.0 inv.1 inv.2 out.3 in (
       simp length-set (rw inv.0 (omega arith)),
-      walk_closes (links_in links) start links.n at.loop-i.m at.loop-i.v at.loop-i.here so_far (omega arith)
+      walk_closes (links_in links) start links.n c.loop-i.m c.loop-i.v c.loop-i.here so_far (omega arith)
           (rw inv.0 (omega arith)) (step ∙ ap some c.if-here-start.true),
       λ no. absurd (subst T no tt),
     )
 
 pub walk-preserved : goal.walk-preserved
 walk-preserved c =
-    let at = c in
-    let inv = at.loop-i.invariant in
-    let out = at.walk.invariant in
-    let links = at.args.links in
-    let start = at.args.start in
-    let kept = place_link at.requires at.loop-i.i at.loop-i-test.true c.row_in-row.ensures c.link_of-link.ensures in
+    let inv = c.loop-i.invariant in
+    let out = c.walk.invariant in
+    let links = c.args.links in
+    let start = c.args.start in
+    let kept = place_link c.requires c.loop-i.i c.loop-i-test.true c.row_in-row.ensures c.link_of-link.ensures in
     -- the row that is read leads where the step goes
-    let step : next (links_in links) at.loop-i.here ≡ some c.link_of-link.result.w =
-    inv.4 ∙ next_here (in_drop links at.loop-i.i at.loop-i-test.true) c.if-here-links.true
+    let step : next (links_in links) c.loop-i.here ≡ some c.link_of-link.result.w =
+    inv.4 ∙ next_here (in_drop links c.loop-i.i c.loop-i-test.true) c.if-here-links.true
     ∙ ap some (sym (ap (λ (l : Link). l.1) kept)) in
     let so_far = inside (links_in links) start links.n inv.0 inv.1 inv.2 out.3 in
     let followed = inside-follow (links_in links) start links.n inv.0 inv.1 inv.2 out.4 in (
       omega arith,
       refl,
       simp length-set (rw inv.0 out.2),
-      walk_goes (links_in links) start links.n at.loop-i.m at.loop-i.v at.loop-i.here so_far (omega arith)
+      walk_goes (links_in links) start links.n c.loop-i.m c.loop-i.v c.loop-i.here so_far (omega arith)
           (rw inv.0 (omega arith)) step c.if-here-start.false,
-      follow_goes (links_in links) start links.n at.loop-i.m at.loop-i.v at.loop-i.here followed
+      follow_goes (links_in links) start links.n c.loop-i.m c.loop-i.v c.loop-i.here followed
           (rw inv.0 (omega arith)) (omega arith) step,
     )
 
 pub loop-i-preserved : goal.loop-i-preserved
 loop-i-preserved c =
-    let inner = c in
-    let at = inner in
-    let inv = at.loop-i.invariant in
-    let first = in_drop at.args.links at.loop-i.i inner.loop-i-test.true in
+    let inv = c.loop-i.invariant in
+    let first = in_drop c.args.links c.loop-i.i c.loop-i-test.true in
     (inv.0, inv.1, inv.2, omega arith, rw add-one (inv.4 ∙ next_later first c.if-here-links.false))
 
 -- where the walk has ended: its points, with the one where it stands, are those that follow

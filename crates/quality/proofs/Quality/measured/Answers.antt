@@ -15,38 +15,35 @@ size_of : {d : ℤ} {n : ℕ} → SFits w64 d → n ≡ nat_abs (to_z w64 (of_z 
 size_of fits e = e ∙ ap (λ z. nat_abs z ^ 2) (to_z-of_z fits)
 
 pub returns-then-d-eq0 : goal.returns-then-d-eq0
-returns-then-d-eq0 c = let a = c in flat_is a.args.d a.args.s a.ranges.d c.if-d-eq0.true
+returns-then-d-eq0 c = flat_is c.args.d c.args.s c.ranges.d c.if-d-eq0.true
 
 pub overflow_mul-num : goal.overflow_mul-num
 overflow_mul-num c =
-    let a = c in
-    num_fits a.args.d c.square-num.result (size_of a.ranges.d c.square-num.ensures) a.requires.0
+    num_fits c.args.d c.square-num.result (size_of c.ranges.d c.square-num.ensures) c.requires.0
 
 pub overflow_mul-den : goal.overflow_mul-den
-overflow_mul-den c = let a = c in square_den_fits a.args.s a.requires.1
+overflow_mul-den c = square_den_fits c.args.s c.requires.1
 
 pub overflow_mul-den-2 : goal.overflow_mul-den-2
-overflow_mul-den-2 c = let a = c in cube_den_fits a.args.s a.requires.1
+overflow_mul-den-2 c = cube_den_fits c.args.s c.requires.1
 
 pub returns-then-d-lt0 : goal.returns-then-d-lt0
 returns-then-d-lt0 c =
-    let a = c in
     let r = c.square-num in
     inverted_is
-    a.args.d
-    a.args.s
+    c.args.d
+    c.args.s
     r.result
-    (size_of a.ranges.d r.ensures)
-    (ap (λ z. lt_z z (pos 0)) (sym (to_z-of_z a.ranges.d)) ∙ c.if-d-lt0.true)
+    (size_of c.ranges.d r.ensures)
+    (ap (λ z. lt_z z (pos 0)) (sym (to_z-of_z c.ranges.d)) ∙ c.if-d-lt0.true)
 
 pub returns-else-d-lt0 : goal.returns-else-d-lt0
 returns-else-d-lt0 c =
-    let a = c in
     let r = c.square-num in
     upright_is
-    a.args.d
-    a.args.s
+    c.args.d
+    c.args.s
     r.result
-    (size_of a.ranges.d r.ensures)
+    (size_of c.ranges.d r.ensures)
     c.if-d-eq0.false
-    (ap (λ z. lt_z z (pos 0)) (sym (to_z-of_z a.ranges.d)) ∙ c.if-d-lt0.false)
+    (ap (λ z. lt_z z (pos 0)) (sym (to_z-of_z c.ranges.d)) ∙ c.if-d-lt0.false)

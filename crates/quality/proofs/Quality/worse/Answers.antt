@@ -20,22 +20,19 @@ module _ (q r : Quality) {x : Bool} {m n : ℕ} (e : m ≡ over q) (f : n ≡ ov
 
 pub returns-then-less : goal.returns-then-less
 returns-then-less c =
-    let l = c in
-    let a = l.args in
-    first a.self a.other l.over.ensures l.over-2.ensures l.less.ensures c.if-less.true
+    let a = c.args in
+    first a.self a.other c.over.ensures c.over-2.ensures c.less.ensures c.if-less.true
 
 pub returns : goal.returns
 returns c =
-    let e = c in
-    let l = e in
-    let a = l.args in
+    let a = c.args in
     second
     a.self
     a.other
-    l.over.ensures
-    l.over-2.ensures
-    l.less.ensures
-    e.if-less.false
+    c.over.ensures
+    c.over-2.ensures
+    c.less.ensures
+    c.if-less.false
     c.under.ensures
     c.under-2.ensures
     c.less-2.ensures

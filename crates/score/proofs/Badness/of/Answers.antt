@@ -7,9 +7,8 @@ use Rattle.score.proofs.Badness.of.Goals as goal
 pub returns-in-Upright : goal.returns-in-Upright
 unfolding badness
 returns-in-Upright c =
-    let t = c in
     rw (
-      sym t.kind-kind.ensures ∙ t.in-Upright.is,
+      sym c.kind-kind.ensures ∙ c.in-Upright.is,
       c.rounded_up.ensures,
       c.den-den.ensures,
       c.num-num.ensures,

@@ -10,17 +10,15 @@ use Rattle.score.proofs.Score.of.Goals as goal
 pub returns-in-Upright : goal.returns-in-Upright
 unfolding score_of
 returns-in-Upright c =
-    let s = c in
-    let t = s in
-    let q = t.args.quality in
+    let q = c.args.quality in
     let within : min (score_of_size q.num q.den) highest_score ≡ score_of_size q.num q.den =
     omega (arith, size_score_within q.num q.den) in
     c.at.ensures
     ∙ rw (
-      sym t.kind-kind.ensures ∙ t.in-Upright.is,
-      s.score_of.ensures,
-      s.num.ensures,
-      s.den.ensures,
+      sym c.kind-kind.ensures ∙ c.in-Upright.is,
+      c.score_of.ensures,
+      c.num.ensures,
+      c.den.ensures,
       within,
     )
 
