@@ -1,4 +1,5 @@
 -- The answer, then every byte.
+use mathlib.Core.Bool.{not}
 use mathlib.Core.Path.{ap, ◌∙◌}
 use native.Mathlib.Omega.{arith}
 use borrow.Author.Rules.{rules}
@@ -26,9 +27,9 @@ returns-then-not-answer_is c =
     (flip_answer a.input.now a.out.now (numbers_in s))
     _
     c.answer_is.ensures
-    (at_numbers s (λ l. answer_of (flip_answer a.input.now a.out.now l)) c.flip-answer.ensures.0 count numbers)
+    (at_numbers s (λ l. answer_of (flip_answer a.input.now a.out.now l)) c.flip-answer.ensures.answer count numbers)
     _
-    c.if-not-answer_is.true-raw
+    (ap not c.if-not-answer_is.true)
 
 pub returns : goal.returns
 unfolding flip_agrees
@@ -37,11 +38,11 @@ returns c =
     let s = a.stored.now in
     let numbers = c.numbers-given.ensures in
     let count = c.count-n.ensures in
-    let bytes = at_numbers s (flip_bytes a.input.now a.out.now) c.flip-answer.ensures.1 count numbers in
+    let bytes = at_numbers s (flip_bytes a.input.now a.out.now) c.flip-answer.ensures.bytes count numbers in
     same_answer
     (flip_answer a.input.now a.out.now (numbers_in s))
     _
     c.answer_is.ensures
-    (at_numbers s (λ l. answer_of (flip_answer a.input.now a.out.now l)) c.flip-answer.ensures.0 count numbers)
-    c.if-not-answer_is.false-raw
+    (at_numbers s (λ l. answer_of (flip_answer a.input.now a.out.now l)) c.flip-answer.ensures.answer count numbers)
+    (ap not c.if-not-answer_is.false)
     (c.output_is.ensures ∙ ap (λ l. output_is l s) bytes)

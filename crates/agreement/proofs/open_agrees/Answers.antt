@@ -1,4 +1,5 @@
 -- The answer, then the fields.
+use mathlib.Core.Bool.{not}
 use mathlib.Core.Path.{ap, ◌∙◌}
 use Rattle.block.specs.Opening.{open_answer, open_gives}
 use Rattle.expected.specs.Expected.{fields_are}
@@ -17,7 +18,7 @@ returns-then-not-answer_is c =
     c.answer_is.ensures
     (ap (λ o. o.answer) c.open-opened.ensures)
     _
-    c.if-not-answer_is.true-raw
+    (ap not c.if-not-answer_is.true)
 
 pub returns : goal.returns
 unfolding open_agrees open_gives
@@ -29,5 +30,5 @@ returns c =
     _
     c.answer_is.ensures
     (ap (λ o. o.answer) opened)
-    c.if-not-answer_is.false-raw
+    (ap not c.if-not-answer_is.false)
     (c.fields_are.ensures ∙ ap (λ o. fields_are o.fields a.stored.now) opened)

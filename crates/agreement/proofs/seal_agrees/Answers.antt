@@ -1,4 +1,5 @@
 -- The answer, then every byte.
+use mathlib.Core.Bool.{not}
 use mathlib.Core.Path.{ap, ◌∙◌}
 use Rattle.block.specs.Opening.{seal_answer}
 use Rattle.expected.specs.Expected.{output_is}
@@ -15,9 +16,9 @@ returns-then-not-answer_is c =
     (seal_answer a.input.now a.out.now)
     _
     c.answer_is.ensures
-    c.seal-answer.ensures.0
+    c.seal-answer.ensures.answer
     _
-    c.if-not-answer_is.true-raw
+    (ap not c.if-not-answer_is.true)
 
 pub returns : goal.returns
 unfolding seal_agrees
@@ -27,6 +28,6 @@ returns c =
     (seal_answer a.input.now a.out.now)
     _
     c.answer_is.ensures
-    c.seal-answer.ensures.0
-    c.if-not-answer_is.false-raw
-    (c.output_is.ensures ∙ ap (λ bytes. output_is bytes a.stored.now) c.seal-answer.ensures.1)
+    c.seal-answer.ensures.answer
+    (ap not c.if-not-answer_is.false)
+    (c.output_is.ensures ∙ ap (λ bytes. output_is bytes a.stored.now) c.seal-answer.ensures.bytes)

@@ -40,15 +40,15 @@ overflow_cast-block c = omega (arith, c.type_inv.block 2)
 
 pub smaller-requires : goal.smaller-requires
 smaller-requires c = (
-      omega (arith, c.if-count-e.false, c.type_inv.block 1),
-      omega (arith, c.if-count-f.false, c.type_inv.block 1),
-    )
+  omega (arith, c.if-count-e.false, c.type_inv.block 1),
+  omega (arith, c.if-count-f.false, c.type_inv.block 1),
+)
 
 pub larger-requires : goal.larger-requires
 larger-requires c = (
-      omega (arith, c.if-count-e.false, c.type_inv.block 1),
-      omega (arith, c.if-count-f.false, c.type_inv.block 1),
-    )
+  omega (arith, c.if-count-e.false, c.type_inv.block 1),
+  omega (arith, c.if-count-f.false, c.type_inv.block 1),
+)
 
 pub find-requires : goal.find-requires
 find-requires c =

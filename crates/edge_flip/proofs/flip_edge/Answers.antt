@@ -102,7 +102,6 @@ carry_out-end-requires c =
           (begun_version c.args.block.now c.requires.0 c.args.out.now _ c.requires.1 c.begin.ensures);
     }
 
-
 pub finish-requires : goal.finish-requires
 finish-requires c =
     let three = c.if-ring-ne-THREE.false in

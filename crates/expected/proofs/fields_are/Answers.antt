@@ -1,4 +1,6 @@
 -- The version, the counts, the coordinates and the rows, one after the other.
+use mathlib.Core.Path.{ap}
+use mathlib.Core.Bool.{not}
 use mathlib.Core.Path.{◌∙◌}
 use borrow.Author.Tests.{eq-eqb, ne_eqb}
 use Rattle.expected.specs.Expected.{fields_are}
@@ -24,7 +26,7 @@ returns-then-fields-stored-3 c =
 pub returns-then-not-same : goal.returns-then-not-same
 unfolding fields_are
 returns-then-not-same c =
-    fails _ (failed c.same.ensures c.if-not-same.true-raw)
+    fails _ (failed c.same.ensures (ap not c.if-not-same.true))
     ∙ passes (eq-eqb _ _ c.if-fields-stored-3.false)
     ∙ passes (eq-eqb _ _ c.if-fields-stored-2.false)
     ∙ passes (eq-eqb _ _ c.if-fields-stored.false)
@@ -33,7 +35,7 @@ pub returns : goal.returns
 unfolding fields_are
 returns c =
     c.same-2.ensures
-    ∙ passes (passed c.same.ensures c.if-not-same.false-raw)
+    ∙ passes (passed c.same.ensures (ap not c.if-not-same.false))
     ∙ passes (eq-eqb _ _ c.if-fields-stored-3.false)
     ∙ passes (eq-eqb _ _ c.if-fields-stored-2.false)
     ∙ passes (eq-eqb _ _ c.if-fields-stored.false)

@@ -33,12 +33,12 @@ loop-i-preserved c =
     let row = c.row_in-row.ensures in
     let held = c.holds_face.ensures in
     elim c.if-holds_face.branch [
-      then-holds_face w ↦ (
+      | then-holds_face w ↦ (
         omega arith,
         held_next face args.table.now c.loop-i.i c.loop-i.found c.loop-i.invariant.1 _ row _ held w.if-holds_face.true _
             c.if-holds_face.found w.apex_over.ensures (w.found-is ∙ w.with_row-found.ensures),
       )
-    | else-holds_face w ↦ (
+      | else-holds_face w ↦ (
         omega arith,
         other_next face args.table.now c.loop-i.i c.loop-i.found c.loop-i.invariant.1 _ row _ held w.if-holds_face.false
             c.if-holds_face.found w.found-is,

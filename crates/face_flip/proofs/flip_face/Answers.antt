@@ -24,13 +24,13 @@ returns-then-face_wrong c =
     record { answer = both.0; bytes = both.1 }
 
 pub overflow_cast-x : goal.overflow_cast-x
-overflow_cast-x c = omega (arith, (let it : (n : ℕ) → Memᴰ n (let a = c.args in a.x ∷ a.y ∷ a.z ∷ []) → n < 256 = λ n m. let a = c.args in omega ( arith, few_points a.block.now c.requires.0, numbers_below a.block.now a.out.now a.x a.y a.z c.requires.0 c.requires.1 c.face_wrong.result c.face_wrong.ensures c.if-face_wrong.false n m, ) in it) _ (Memᴰ.head refl))
+overflow_cast-x c = omega (arith, (let it : (n : ℕ) → Memᴰ n (let a = c.args in a.x ∷ a.y ∷ a.z ∷ []) → n < 256 = λ n m. let a = c.args in omega (arith, few_points a.block.now c.requires.0, numbers_below a.block.now a.out.now a.x a.y a.z c.requires.0 c.requires.1 c.face_wrong.result c.face_wrong.ensures c.if-face_wrong.false n m) in it) _ (Memᴰ.head refl))
 
 pub overflow_cast-y : goal.overflow_cast-y
-overflow_cast-y c = omega (arith, (let it : (n : ℕ) → Memᴰ n (let a = c.args in a.x ∷ a.y ∷ a.z ∷ []) → n < 256 = λ n m. let a = c.args in omega ( arith, few_points a.block.now c.requires.0, numbers_below a.block.now a.out.now a.x a.y a.z c.requires.0 c.requires.1 c.face_wrong.result c.face_wrong.ensures c.if-face_wrong.false n m, ) in it) _ (Memᴰ.tail (Memᴰ.head refl)))
+overflow_cast-y c = omega (arith, (let it : (n : ℕ) → Memᴰ n (let a = c.args in a.x ∷ a.y ∷ a.z ∷ []) → n < 256 = λ n m. let a = c.args in omega (arith, few_points a.block.now c.requires.0, numbers_below a.block.now a.out.now a.x a.y a.z c.requires.0 c.requires.1 c.face_wrong.result c.face_wrong.ensures c.if-face_wrong.false n m) in it) _ (Memᴰ.tail (Memᴰ.head refl)))
 
 pub overflow_cast-z : goal.overflow_cast-z
-overflow_cast-z c = omega (arith, (let it : (n : ℕ) → Memᴰ n (let a = c.args in a.x ∷ a.y ∷ a.z ∷ []) → n < 256 = λ n m. let a = c.args in omega ( arith, few_points a.block.now c.requires.0, numbers_below a.block.now a.out.now a.x a.y a.z c.requires.0 c.requires.1 c.face_wrong.result c.face_wrong.ensures c.if-face_wrong.false n m, ) in it) _ (Memᴰ.tail (Memᴰ.tail (Memᴰ.head refl))))
+overflow_cast-z c = omega (arith, (let it : (n : ℕ) → Memᴰ n (let a = c.args in a.x ∷ a.y ∷ a.z ∷ []) → n < 256 = λ n m. let a = c.args in omega (arith, few_points a.block.now c.requires.0, numbers_below a.block.now a.out.now a.x a.y a.z c.requires.0 c.requires.1 c.face_wrong.result c.face_wrong.ensures c.if-face_wrong.false n m) in it) _ (Memᴰ.tail (Memᴰ.tail (Memᴰ.head refl))))
 
 pub flip_right-requires : goal.flip_right-requires
 flip_right-requires c =

@@ -98,7 +98,6 @@ put_three-requires c =
           c.if-mark_goes.false _ c.begin.ensures _ _ c.keep_others-kept.ensures.0 c.keep_others-kept.ensures.1 c.least.result c.least.ensures;
     }
 
-
 pub dress-requires : goal.dress-requires
 dress-requires c =
     let a = c.args in
@@ -113,7 +112,6 @@ dress-requires c =
       from_le_end =
           (omega arith, omega (arith, c.if-kept-gt-MAX_ROWS.false));
     }
-
 
 pub bounds-block-1 : goal.bounds-block-1
 bounds-block-1 c =

@@ -1,4 +1,6 @@
 -- The seven numbers, one after the other.
+use mathlib.Core.Path.{ap}
+use mathlib.Core.Bool.{not}
 use mathlib.Core.Path.{◌∙◌}
 use Rattle.figures.specs.Figures.{worst_is, octave_is, summary_is}
 use Rattle.expected.proofs.TestsInTurn.{fails, passes, failed, passed, unlike, alike, at_two}
@@ -26,7 +28,7 @@ unfolding summary_is
 returns-then-not-worst_is c =
     let worst = c.args.summary.worst in
     let is = at_two (worst_is worst) c.worst_is.ensures c.figure-4.ensures c.figure-5.ensures in
-    fails _ (failed is c.if-not-worst_is.true-raw)
+    fails _ (failed is (ap not c.if-not-worst_is.true))
     ∙ passes (alike c.figure-3.ensures c.if-summary-figure-3.false)
     ∙ passes (alike c.figure-2.ensures c.if-summary-figure-2.false)
     ∙ passes (alike c.figure.ensures c.if-summary-figure.false)
@@ -37,7 +39,7 @@ returns c =
     let summary = c.args.summary in
     let is = at_two (worst_is summary.worst) c.worst_is.ensures c.figure-4.ensures c.figure-5.ensures in
     at_two (octave_is summary.octave) c.octave_is.ensures c.figure-6.ensures c.figure-7.ensures
-    ∙ passes (passed is c.if-not-worst_is.false-raw)
+    ∙ passes (passed is (ap not c.if-not-worst_is.false))
     ∙ passes (alike c.figure-3.ensures c.if-summary-figure-3.false)
     ∙ passes (alike c.figure-2.ensures c.if-summary-figure-2.false)
     ∙ passes (alike c.figure.ensures c.if-summary-figure.false)

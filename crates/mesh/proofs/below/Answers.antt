@@ -20,7 +20,6 @@ returns-then-count-row-3 c = rw (
   lt-ltb _ _ c.if-count-row.false,
   lt-ltb _ _ c.if-count-row-2.false,
   le-ltb _ _ c.if-count-row-3.true,
-
 )
 
 pub returns : goal.returns

@@ -24,7 +24,6 @@ returns-then-row-3 c = rw (
   ne_eqb _ _ c.if-row.false,
   ne_eqb _ _ c.if-row-2.false,
   eq-eqb _ _ c.if-row-3.true,
-
 )
 
 pub returns-then-row-4 : goal.returns-then-row-4

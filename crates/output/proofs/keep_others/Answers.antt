@@ -33,14 +33,14 @@ loop-i-preserved c =
     let table = args.table.now in
     let rest = args.rows.now in
     elim c.if-row_stays.branch [
-      then-row_stays w ↦
-        let more = stays_more x y z table rest i c.loop-i.kept c.loop-i.rows c.loop-i.invariant.2 _ row _ stayed (omega arith)
-            w.if-row_stays.true c.if-row_stays.rows c.if-row_stays.kept (w.rows-is ∙ w.put_row.ensures) w.kept-is in
-        (omega arith, omega (arith, w.kept-is), more)
-    | else-row_stays w ↦
-        let more = goes_more x y z table rest i c.loop-i.kept c.loop-i.rows c.loop-i.invariant.2 _ row _ stayed w.if-row_stays.false
-            c.if-row_stays.rows c.if-row_stays.kept w.rows-is w.kept-is in
-        (omega arith, omega (arith, w.kept-is), more)
+      | then-row_stays w ↦
+          let more = stays_more x y z table rest i c.loop-i.kept c.loop-i.rows c.loop-i.invariant.2 _ row _ stayed (omega arith)
+          w.if-row_stays.true c.if-row_stays.rows c.if-row_stays.kept (w.rows-is ∙ w.put_row.ensures) w.kept-is in
+          (omega arith, omega (arith, w.kept-is), more)
+      | else-row_stays w ↦
+          let more = goes_more x y z table rest i c.loop-i.kept c.loop-i.rows c.loop-i.invariant.2 _ row _ stayed w.if-row_stays.false
+          c.if-row_stays.rows c.if-row_stays.kept w.rows-is w.kept-is in
+          (omega arith, omega (arith, w.kept-is), more)
     ]
 
 pub shape_of-rows : goal.shape_of-rows

@@ -1,4 +1,6 @@
 -- `holds_face` asks for the three numbers, one after the other.
+use mathlib.Core.Path.{ap}
+use mathlib.Core.Bool.{not}
 use Prim.Native.Nat.{ℕ}
 use mathlib.Core.Bool.{Bool, true, false}
 use mathlib.Core.List.{[], ◌∷◌}
@@ -28,18 +30,18 @@ module _ (x y z : ℕ) (row : Row) where
 pub returns-then-not-row_holds : goal.returns-then-not-row_holds
 returns-then-not-row_holds c =
     let a = c.args in
-    first-missing a.x a.y a.z a.row _ c.row_holds.ensures (not-true _ c.if-not-row_holds.true-raw)
+    first-missing a.x a.y a.z a.row _ c.row_holds.ensures (not-true _ (ap not c.if-not-row_holds.true))
 
 pub returns-then-not-row_holds-2 : goal.returns-then-not-row_holds-2
 returns-then-not-row_holds-2 c =
     let a = c.args in
     second-missing a.x a.y a.z a.row _ _ c.row_holds.ensures
-    (not-false _ c.if-not-row_holds.false-raw)
-    c.row_holds-2.ensures (not-true _ c.if-not-row_holds-2.true-raw)
+    (not-false _ (ap not c.if-not-row_holds.false))
+    c.row_holds-2.ensures (not-true _ (ap not c.if-not-row_holds-2.true))
 
 pub returns : goal.returns
 returns c =
     let a = c.args in
     third-decides a.x a.y a.z a.row _ _ _ c.row_holds.ensures
-    (not-false _ c.if-not-row_holds.false-raw)
-    c.row_holds-2.ensures (not-false _ c.if-not-row_holds-2.false-raw) c.row_holds-3.ensures
+    (not-false _ (ap not c.if-not-row_holds.false))
+    c.row_holds-2.ensures (not-false _ (ap not c.if-not-row_holds-2.false)) c.row_holds-3.ensures

@@ -19,7 +19,6 @@ returns-then-n-row-3 c = rw (
   ne_eqb _ _ c.if-n-row.false,
   ne_eqb _ _ c.if-n-row-2.false,
   eq-eqb _ _ c.if-n-row-3.true,
-
 )
 
 pub returns : goal.returns

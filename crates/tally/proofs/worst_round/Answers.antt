@@ -35,10 +35,10 @@ loop-k-preserved c =
     let test : p (row_in table i) ≡ c.holds_edge.result = ap p (sym is) ∙ sym c.holds_edge.ensures in (
       omega arith,
       elim c.if-holds_edge.branch [
-        then-holds_edge w ↦
-          w.met-is ∙ w.with-met.ensures
-          ∙ rw (c.loop-k.invariant.1, w.row_quality.ensures, is, add-one) (passing_met f table i p (test ∙ w.if-holds_edge.true))
-      | else-holds_edge w ↦ w.met-is ∙ c.loop-k.invariant.1 ∙ rw add-one (other_met f table i p (test ∙ w.if-holds_edge.false))
+        | then-holds_edge w ↦
+            w.met-is ∙ w.with-met.ensures
+            ∙ rw (c.loop-k.invariant.1, w.row_quality.ensures, is, add-one) (passing_met f table i p (test ∙ w.if-holds_edge.true))
+        | else-holds_edge w ↦ w.met-is ∙ c.loop-k.invariant.1 ∙ rw add-one (other_met f table i p (test ∙ w.if-holds_edge.false))
       ],
     )
 
