@@ -1,5 +1,5 @@
 -- Answers 1 to 8 as statements: a block opens exactly when its length, both sums and the body are right.
-use Prim.Native.Nat.{ℕ, ◌-◌}
+use Prim.Native.Nat.{ℕ}
 use mathlib.Core.List.{List, [], ◌∷◌}
 use mathlib.Core.Path.{◌≡◌}
 use native.Mathlib.Omega.{arith}

@@ -1,5 +1,5 @@
 -- Requirement §2 as statements: what a patch must be to stand in a block, what a block holds that opens, and the layout as a bijection.
-use Rattle.std.specs.Prelude.{ℕ, ◌-◌, List, ◌≡◌, T, length, take, drop}
+use Rattle.std.specs.Prelude.{ℕ, List, ◌≡◌, T, length, take, drop}
 use Rattle.lists.specs.Lists.{every}
 use Rattle.marking.specs.Marking.{agree}
 use Rattle.layout.specs.Layout.{Patch, block_bytes, body_bytes}

@@ -1,6 +1,6 @@
 -- What is written of a patch that keeps the rule is a right body; the fields of a right body, written, are the body. What answers 7, 8 and
 -- 22 test is in the bytes what it is in the fields.
-use Prim.Native.Nat.{ℕ, ◌+◌, ◌-◌, ◌*◌, ◌≤◌}
+use Prim.Native.Nat.{ℕ, ◌+◌, ◌*◌, ◌≤◌}
 use mathlib.Core.Bool.{not}
 use mathlib.Core.List.{List, [], ◌∷◌, ◌++◌, flat_map}
 use mathlib.Core.Path.{◌≡◌, refl, sym, ap, ◌∙◌}

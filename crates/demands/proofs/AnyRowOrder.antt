@@ -1,6 +1,6 @@
 -- The order of the rows and their even arrangement change no answer of a removal or a flip, nor the ring, nor the new rows:
 -- what is so of two tables of the same tetrahedra is so of two blocks that hold them.
-use Prim.Native.Nat.{ℕ, zero, suc, ◌-◌, min, max}
+use Prim.Native.Nat.{ℕ, zero, suc, min, max}
 use mathlib.Core.Bool.{Bool, true, false, cond, not, ◌&&◌}
 use mathlib.Core.List.{List, [], ◌∷◌, ◌++◌, append_assoc}
 use mathlib.Core.Path.{◌≡◌, refl, sym, ap, ◌∙◌, subst}

@@ -1,6 +1,6 @@
 -- Demand 3. Of the refusals 16 alone is left under its premises. It is given exactly when each tree has a row no better than now; and the
 -- chosen tree is the best. What is so of trees is so of all that cuts the ring.
-use Prim.Native.Nat.{ℕ, ◌-◌, ◌≤◌}
+use Prim.Native.Nat.{ℕ, ◌≤◌}
 use mathlib.Core.Bool.{Bool, false, not}
 use mathlib.Core.List.{List}
 use mathlib.Core.Logic.{◌↔◌}
@@ -26,7 +26,7 @@ use Rattle.triangulation.proofs.WholeRing.{RingWay, BestWay, way_listed, listed_
 use Rattle.calls.specs.Removing.{worst_now, mark_lost, no_way, none_better, patch_after, removal_tests, remove_answer, remove_bytes}
 use Rattle.calls.specs.Removing.{Sound}
 use Rattle.tables.proofs.RingReplaced.{way_there}
-use Rattle.accepted.proofs.ChosenWay.{site_chosen, some_way}
+use Rattle.accepted.proofs.ChosenWay.{site_chosen}
 use Rattle.accepted.proofs.AfterRemoval.{fields_after}
 use Rattle.demands.specs.Kernels.{ours}
 use Rattle.demands.specs.TriangleSets.{table_made, NoneBetter}

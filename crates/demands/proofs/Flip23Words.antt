@@ -9,7 +9,7 @@ use native.Mathlib.Omega.{arith}
 use borrow.Author.Tests.{eqb-true, eqb-false, eq-eqb, ne_eqb, lt-ltb, le-ltb, ltb-true, not-false}
 use lib.Dec.{T, ltb, ltb→lt}
 use lib.ListN.{length}
-use Rattle.lists.specs.Lists.{every, those, count, different}
+use Rattle.lists.specs.Lists.{every, those, different}
 use Rattle.lists.proofs.Tests.{and_l, is_yes, yes_is}
 use Rattle.lists.proofs.Lists.{every_at, any_e}
 use Rattle.lists.proofs.Numbers.{has_e}

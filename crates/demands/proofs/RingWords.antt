@@ -1,5 +1,5 @@
 -- Answers 11 and 13 of a removal, and 12 of every call on an edge, are given exactly when their words are true of the rows.
-use Prim.Native.Nat.{ℕ, ◌-◌, ◌<◌, min, max}
+use Prim.Native.Nat.{ℕ, ◌<◌, min, max}
 use mathlib.Core.Bool.{Bool, true, false, cond, not, ◌&&◌, ◌||◌}
 use mathlib.Core.List.{List, ◌++◌, Memᴰ}
 use mathlib.Core.Logic.{◌↔◌, ◌⊎◌, inl, inr}
@@ -15,7 +15,7 @@ use Rattle.mesh.specs.Mesh.{keeps_mesh_rule}
 use Rattle.layout.specs.Layout.{Patch, fields_of}
 use Rattle.answers.specs.Answers.{Tests, first_refusal}
 use Rattle.answers.proofs.ByNumber.{test_of, before, unlike, passes, stops}
-use Rattle.links.specs.Links.{Link, starts, ends}
+use Rattle.links.specs.Links.{Link, starts}
 use Rattle.walk.specs.Walk.{all_close, circle_of, chain_of}
 use Rattle.ring.specs.Ring.{Site, site_of, min_ring, max_ring, whole, or_chains}
 use Rattle.ring.specs.Ring.{link_open, many_circles, length_wrong, edge_tests}

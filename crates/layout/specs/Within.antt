@@ -1,5 +1,5 @@
 -- Requirement §2: the limits of a patch as a statement.
-use Rattle.std.specs.Prelude.{ℕ, ◌-◌, ◌≤◌, Bool, ◌&&◌, T, length, nat_lt}
+use Rattle.std.specs.Prelude.{ℕ, ◌≤◌, Bool, ◌&&◌, T, length, nat_lt}
 use mathlib.Core.List.{flat_map}
 use Rattle.lists.specs.Lists.{every}
 use Rattle.volume.specs.Volume.{point_bytes}

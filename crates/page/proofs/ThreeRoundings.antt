@@ -1,6 +1,6 @@
 -- Three roundings, of n, of d and of the quotient of what they were rounded to, each off by one part in 2^53 at most, come to one part in
 -- 2^51 at most. G, H and Q are n, d and the quotient, each rounded, in units of 1/L.
-use Rattle.std.proofs.Common.{ℕ, ◌+◌, ◌-◌, ◌*◌, ◌^◌, ◌<◌, ◌≤◌, mul-le-mul_right, le_of_mul-le-mul_right, arith, lit<, lit≤}
+use Rattle.std.proofs.Common.{ℕ, ◌*◌, ◌^◌, ◌<◌, ◌≤◌, mul-le-mul_right, le_of_mul-le-mul_right, arith, lit<, lit≤}
 use Rattle.page.proofs.RoundedClose.{Within}
 
 -- from one ratio to a wider one

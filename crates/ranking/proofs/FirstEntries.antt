@@ -1,7 +1,7 @@
 -- Growth by first entries: they decide, or they are one fraction and the rest grows. So no list grows to itself, growth goes on from patch to
 -- patch, and of two patches with the same qualities in another order neither list grows to the other.
 use Prim.Native.Nat.{ℕ, zero, suc, ◌≤◌, ◌<◌}
-use mathlib.Core.Bool.{Bool, not}
+use mathlib.Core.Bool.{Bool}
 use mathlib.Core.List.Memᴰ
 use mathlib.Core.List.{List, [], ◌∷◌}
 use mathlib.Core.Path.{◌≡◌, refl, ap}

@@ -16,7 +16,7 @@ use Rattle.body.specs.Body.{body_tests}
 use Rattle.block.specs.Opening.{not_block, open_answer}
 use Rattle.ring.specs.Ring.{Site, site_of, or_chains, edge_tests, ring_with}
 use Rattle.ring.proofs.RingInAnyOrder.{site_ordered}
-use Rattle.calls.specs.declared.Removal.TheVariants.{Done, Refused}
+use Rattle.calls.specs.declared.Removal.TheVariants.{Done}
 use Rattle.calls.specs.declared.Removed.{Removed}
 use Rattle.calls.specs.Removing.{block_tests, removal_tests, remove_answer, remove_bytes, remove_gives}
 use Rattle.calls.proofs.CallTests.{block_left, blocked}

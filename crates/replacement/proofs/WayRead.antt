@@ -1,8 +1,6 @@
 -- What the table of pieces keeps of the whole ring or chain is its best worst, and its apexes stand for the chosen triangulation: where
 -- the best worst is no mark, no kept row bars the chain.
 use Prim.Native.Nat.{ℕ, ◌+◌, ◌≤◌}
-use mathlib.Core.Bool.{Bool}
-use mathlib.Core.List.{List}
 use mathlib.Core.Path.{◌≡◌, sym, ap, ◌∙◌}
 use native.Mathlib.Omega.{arith}
 use lib.ListN.{get_or}

@@ -1,6 +1,6 @@
 -- A report has at most 512 bytes: counts, point numbers and regions have at most three digits and a score four, a ring or a chain has at
 -- most ten points, and there are at most sixteen new rows, which are bytes of the written block.
-use Prim.Native.Nat.{ℕ, ◌+◌, ◌-◌, ◌*◌, ◌^◌, ◌≤◌, ◌<◌}
+use Prim.Native.Nat.{ℕ, ◌-◌, ◌*◌, ◌^◌, ◌≤◌, ◌<◌}
 use mathlib.Core.Bool.{Bool, true, false, cond}
 use mathlib.Core.List.{List, ◌++◌}
 use mathlib.Core.Option.{Option, none, some}

@@ -1,5 +1,5 @@
 -- Requirement §4: a row measured, and the total D of a table.
-use Rattle.std.specs.Prelude.{ℕ, ◌+◌, ℤ, pos, ◌+ℤ◌, get_or}
+use Rattle.std.specs.Prelude.{ℕ, ℤ, pos, ◌+ℤ◌, get_or}
 use mathlib.Core.List.{List, foldr, map}
 use Rattle.volume.specs.declared.Point.{Point}
 use Rattle.quality.specs.declared.Quality.{Quality}

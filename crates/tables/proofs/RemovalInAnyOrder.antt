@@ -12,7 +12,7 @@ use lib.Dec.{T, eqb, ltb}
 use lib.ListN.{length}
 use Rattle.lists.proofs.Tests.{same_test}
 use Rattle.lists.proofs.Lists.{every_at, every_i, any_same}
-use Rattle.quality.specs.Quality.{worse, worst}
+use Rattle.quality.specs.Quality.{worse}
 use Rattle.volume.specs.declared.Point.{Point}
 use Rattle.quality.proofs.QualityOrder.{Fraction, ◌⊑◌, at_most_trans}
 use Rattle.quality.proofs.WorstAndBest.{Worst, worst_is_lem}

@@ -31,7 +31,7 @@ use Rattle.links.proofs.NextLink.{next_is}
 use Rattle.walk.proofs.LinksClose.{entered_close}
 use Rattle.ring.proofs.OneChain.{Runs, head_open, head_runs, runs_here, runs_onward, runs_last, run_chain}
 use Rattle.ring.proofs.OneRing.{GoesRound, ring_circle, circle_round, chain_round, round_one}
-use Rattle.tables.specs.RoundAnEdge.{reads, linked, pair_count, neighbours, is_pair, Round}
+use Rattle.tables.specs.RoundAnEdge.{reads, pair_count, neighbours, is_pair, Round}
 use Rattle.tables.proofs.AtMostTwoRows.{count_weaker}
 use Rattle.tables.proofs.RowsAndLinks.{read_e, read_linked, linked_read, after_in, after_on, after_last, pair_at, chain_less}
 use Rattle.tables.proofs.RowsAndLinks.{ring_full, upward, round_ends, round_linked, starts_first, first_starts, as_many, chain_head}

@@ -17,7 +17,6 @@ use Rattle.rows.proofs.EvenMoves.{even_holds}
 use Rattle.mesh.proofs.EvenFaces.{even_proper}
 use Rattle.layout.specs.Layout.{Patch}
 use Rattle.links.specs.Links.{Link, link}
-use Rattle.walk.specs.Walk.{smallest}
 use Rattle.links.proofs.LinksUnderRule.{link_is}
 use Rattle.walk.proofs.TheSmallest.{smallest_is, smallest_le}
 use Rattle.marking.specs.Marking.{dressed}

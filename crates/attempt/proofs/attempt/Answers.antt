@@ -1,19 +1,12 @@
 -- Each way out is one case of the laws on a removal tried; with answers 9 to 13 behind it the edge has its ring.
-use Prim.Native.Nat.{ℕ, ◌<◌}
-use mathlib.Core.List.{List}
-use mathlib.Core.Path.{◌≡◌, refl, sym, ap, ap₂, ◌∙◌, subst}
+use Prim.Native.Nat.{ℕ}
+use mathlib.Core.Path.{refl, sym, ap, ap₂, ◌∙◌, subst}
 use native.Mathlib.Omega.{arith}
-use borrow.Author.Rules.{rules}
-use lib.ListN.{length}
 use Rattle.rows.specs.Steps.{regions_of}
-use Rattle.answers.specs.declared.Answer.TheVariants.{Done}
-use Rattle.layout.specs.Layout.{block_bytes, point_count, row_count, coordinates_of}
-use Rattle.block.specs.Opening.{open_answer}
+use Rattle.layout.specs.Layout.{point_count, row_count, coordinates_of}
 use Rattle.tally.proofs.OpensMeasured.{block_size}
-use Rattle.ring.specs.declared.Found.{Found}
 use Rattle.ring.specs.Ring.{or_chains, Site}
 use Rattle.triangulation.specs.Steps.{site_in}
-use Rattle.edge.specs.Steps.{edge_found}
 use Rattle.edge.proofs.EdgeRinged.{ends_bytes, own_regions, own_site, ringed}
 use Rattle.verdict.specs.Steps.{Plans}
 use Rattle.attempt.proofs.Attempted.{edge_refuses, tried_is}

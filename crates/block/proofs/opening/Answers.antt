@@ -1,6 +1,5 @@
 -- The length and the sums are tested first; what is left is the answer to the body.
 use mathlib.Core.Path.{sym, ap, ◌∙◌}
-use borrow.Author.Rules.{rules}
 use Rattle.answers.specs.Answers.{answer_of}
 use Rattle.block.proofs.AnswersDecided.{open_1, open_2, open_body}
 use Rattle.block.proofs.opening.Goals as goal

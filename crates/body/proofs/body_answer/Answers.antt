@@ -3,7 +3,6 @@ use mathlib.Core.Path.{ap}
 use mathlib.Core.Bool.{Bool, true, false, not}
 use mathlib.Core.Path.{◌≡◌, sym, ◌∙◌}
 use native.Mathlib.Omega.{arith}
-use borrow.Author.Rules.{rules}
 use borrow.Author.Tests.{not-true, not-false}
 use Rattle.body.proofs.BodyAnswers.{refused_3, refused_4_points, refused_4_rows, refused_5, refused_7, refused_8}
 use Rattle.body.proofs.BodyAnswers.{refused_22, all_right}

@@ -1,7 +1,6 @@
 -- The rows that are tested are those of the block.
 use mathlib.Core.Bool.{not}
 use mathlib.Core.Path.{sym, ap, ◌∙◌}
-use borrow.Author.Rules.{rules}
 use Rattle.body.proofs.BodyWritten.{faces_tested}
 use Rattle.body.proofs.face_twice.Goals as goal
 

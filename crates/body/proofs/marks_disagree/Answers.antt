@@ -1,7 +1,6 @@
 -- The rows whose marks are compared are those of the block.
 use mathlib.Core.Bool.{not}
 use mathlib.Core.Path.{sym, ap, ◌∙◌}
-use borrow.Author.Rules.{rules}
 use Rattle.body.proofs.BodyWritten.{marks_tested}
 use Rattle.body.proofs.marks_disagree.Goals as goal
 

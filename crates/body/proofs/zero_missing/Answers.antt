@@ -1,6 +1,5 @@
 -- Each of the three tests that led to an answer decides it.
 use mathlib.Core.Path.{sym, ◌∙◌}
-use borrow.Author.Rules.{rules}
 use Rattle.body.specs.Body.{zero_missing}
 use Rattle.body.proofs.zero_missing.Goals as goal
 

@@ -1,5 +1,4 @@
 -- `corners::put` writes all three numbers, so nothing of what stood there is left.
-use borrow.Author.Rules.{rules}
 use Prim.Native.Nat.{ℕ}
 use native.Mathlib.Omega.{arith}
 use mathlib.Core.Path.{◌≡◌, refl, ◌∙◌}

@@ -1,5 +1,4 @@
 -- `corners::put_quality` writes the parts of the quality, and where a length is another one it leaves all as it was.
-use borrow.Author.Rules.{rules}
 use borrow.Author.Tests.{eq-eqb, ne_eqb}
 use Rattle.corners.specs.Corners.{measured}
 use Rattle.corners.proofs.put_quality.Goals as goal

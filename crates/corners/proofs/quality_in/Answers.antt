@@ -1,5 +1,4 @@
 -- `corners::quality_in` is the quality over the four points: twelve bytes hold them.
-use borrow.Author.Rules.{rules}
 use Rattle.corners.proofs.quality_in.Goals as goal
 
 pub returns : goal.returns

@@ -1,5 +1,5 @@
 -- The invariant of `total`: the sum is that of the first i cells, in 64 bits.
-use Rattle.std.proofs.Common.{◌≡◌, ◌-◌, ◌*◌, ◌%◌, ◌^◌, ◌≤◌, length, take, refl, ap, ◌∙◌, arith, rules}
+use Rattle.std.proofs.Common.{◌≡◌, ◌*◌, ◌%◌, ◌^◌, length, take, refl, ap, ◌∙◌, arith, rules}
 use lib.Seq.{take-length}
 use Rattle.lists.specs.Lists.{sum as sum_of}
 use Rattle.counts.specs.CaseCounts.{calls, answers}

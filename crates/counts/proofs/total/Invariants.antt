@@ -1,8 +1,6 @@
-use Rattle.std.proofs.Common.{◌≡◌, ◌-◌, ◌*◌, ◌%◌, ◌^◌, ◌≤◌, length, take, refl, ap, ◌∙◌, arith, rules}
-use lib.Seq.{take-length}
+use Rattle.std.proofs.Common.{◌≡◌, ◌-◌, ◌*◌, ◌%◌, ◌^◌, ◌≤◌, take}
 use Rattle.lists.specs.Lists.{sum as sum_of}
 use Rattle.counts.specs.CaseCounts.{calls, answers}
-use Rattle.counts.proofs.CellTotals.{total_more}
 use Rattle.counts.proofs.total.Given as goal
 
 abbrev pub invariant-loop-i : goal.invariant-loop-i

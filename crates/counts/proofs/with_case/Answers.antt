@@ -1,5 +1,5 @@
 -- The two tests of the cell, then whether the case agrees.
-use Rattle.std.proofs.Common.{rules, le-leb}
+use Rattle.std.proofs.Common.{le-leb}
 use borrow.Author.Tests.{lt-leb}
 use Rattle.counts.specs.CaseCounts.{counted}
 use Rattle.counts.proofs.with_case.Goals as goal

@@ -1,5 +1,5 @@
 -- One cell is set, to one more.
-use Rattle.std.proofs.Common.{set, ap, rules}
+use Rattle.std.proofs.Common.{set, ap}
 use Rattle.counts.proofs.with_one.Goals as goal
 
 pub returns : goal.returns

@@ -2,7 +2,6 @@
 use mathlib.Core.Path.{sym}
 use native.Mathlib.Omega.{arith}
 use lib.Ieee.{of_bits}
-use borrow.Author.Rules.{rules}
 use Rattle.tally.proofs.MeasuredRows.{measured_row}
 use Rattle.display.proofs.ElementsInOrder.{table_shown, table_zero}
 use Rattle.display.proofs.element.Goals as goal

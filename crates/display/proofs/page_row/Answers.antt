@@ -1,6 +1,5 @@
 -- The page row is made of what is shown of both worst qualities.
 use mathlib.Core.Path.{ap, ap₂, ◌∙◌}
-use borrow.Author.Rules.{rules}
 use Rattle.page.specs.Page.{shown, page_row}
 use Rattle.display.proofs.page_row.Goals as goal
 

@@ -1,8 +1,7 @@
 -- The invariant of `put_elements`: the elements before i are written, and the output's own stand from there on.
-use Prim.Native.Nat.{◌≤◌, ◌-◌}
 use mathlib.Core.Path.{◌≡◌, refl, sym, ap, ◌∙◌}
 use native.Mathlib.Omega.{arith}
-use lib.ListN.{length, get_or, set, length-set}
+use lib.ListN.{get_or, set, length-set}
 use Rattle.rows.proofs.RowsOfTables.{rows_length}
 use Rattle.page.specs.Page.{plus_zero}
 use Rattle.layout.specs.Layout.{max_rows}

@@ -1,13 +1,9 @@
 use Prim.Native.Nat.{◌≤◌, ◌-◌}
-use mathlib.Core.Path.{◌≡◌, refl, sym, ap, ◌∙◌}
-use native.Mathlib.Omega.{arith}
-use lib.ListN.{length, get_or, set, length-set}
-use Rattle.rows.proofs.RowsOfTables.{rows_length}
-use Rattle.page.specs.Page.{plus_zero}
+use mathlib.Core.Path.{◌≡◌}
+use lib.ListN.{length}
 use Rattle.layout.specs.Layout.{max_rows}
 use Rattle.tally.specs.Tally.{patch_in}
-use Rattle.display.specs.Display.{shown_of}
-use Rattle.display.proofs.ElementsInOrder.{up_to, one_more, all_written}
+use Rattle.display.proofs.ElementsInOrder.{up_to}
 use Rattle.display.proofs.put_elements.Given as goal
 
 abbrev pub invariant-loop-i : goal.invariant-loop-i

@@ -1,10 +1,5 @@
 -- Another length and a refusal of opening are handed on; the rows of a block that opens can be measured and shown.
-use mathlib.Core.Path.{◌≡◌}
 use native.Mathlib.Omega.{arith}
-use borrow.Author.Rules.{rules}
-use lib.ListN.{length}
-use Rattle.layout.specs.Layout.{block_bytes}
-use Rattle.block.specs.Opening.{open_answer}
 use Rattle.tally.proofs.OpensMeasured.{block_size, few_rows, opens_measured}
 use Rattle.display.proofs.ShownRows.{other_length, not_opened, opens, elements_written}
 use Rattle.display.proofs.shown.Goals as goal

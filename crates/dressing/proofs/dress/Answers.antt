@@ -4,7 +4,6 @@ use mathlib.Core.List.Memᴰ
 use mathlib.Core.List.{[], ◌∷◌}
 use mathlib.Core.Path.{ap, ◌∙◌, subst}
 use native.Mathlib.Omega.{arith}
-use borrow.Author.Rules.{rules}
 use Rattle.lists.specs.Lists.{numbers_from}
 use Rattle.rows.specs.Rows.{row_in, rows_in, with_rows, holds_face}
 use Rattle.rows.proofs.RowsOfTables.{Bytes, row_bytes_lem, rows_bytes}

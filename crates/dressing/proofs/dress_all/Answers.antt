@@ -1,5 +1,5 @@
 -- The invariant of `dress_all`: the rows before i are dressed, the others stand as they were.
-use Prim.Native.Nat.{◌≤◌, ◌-◌}
+use Prim.Native.Nat.{◌-◌}
 use mathlib.Core.List.{[], ◌∷◌, map}
 use mathlib.Core.Path.{◌≡◌, refl, ap, ◌∙◌}
 use native.Mathlib.Omega.{arith}
@@ -9,7 +9,7 @@ use Rattle.rows.specs.Rows.{row_in, with_rows}
 use Rattle.rows.proofs.PastedRows.{with_none, with_length}
 use Rattle.keys.specs.Steps.{face_key}
 use Rattle.marking.specs.Marking.{dress_by}
-use Rattle.dressing.proofs.RowsDressed.{up_to, dressed_more}
+use Rattle.dressing.proofs.RowsDressed.{dressed_more}
 use Rattle.dressing.proofs.dress_all.Goals as goal
 
 pub loop-i-init : goal.loop-i-init

@@ -1,14 +1,11 @@
 use Prim.Native.Nat.{◌≤◌, ◌-◌}
-use mathlib.Core.List.{[], ◌∷◌, map}
-use mathlib.Core.Path.{◌≡◌, refl, ap, ◌∙◌}
-use native.Mathlib.Omega.{arith}
+use mathlib.Core.Path.{◌≡◌}
 use lib.ListN.{length, take}
-use Rattle.lists.specs.Lists.{has, numbers_from}
-use Rattle.rows.specs.Rows.{row_in, with_rows}
-use Rattle.rows.proofs.PastedRows.{with_none, with_length}
+use Rattle.lists.specs.Lists.{has}
+use Rattle.rows.specs.Rows.{with_rows}
 use Rattle.keys.specs.Steps.{face_key}
 use Rattle.marking.specs.Marking.{dress_by}
-use Rattle.dressing.proofs.RowsDressed.{up_to, dressed_more}
+use Rattle.dressing.proofs.RowsDressed.{up_to}
 use Rattle.dressing.proofs.dress_all.Given as goal
 
 abbrev pub invariant-loop-i : goal.invariant-loop-i

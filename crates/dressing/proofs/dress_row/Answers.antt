@@ -1,5 +1,4 @@
 -- The four faces, each looked up by its key.
-use borrow.Author.Rules.{rules}
 use Rattle.marking.specs.Marking.{dress_by}
 use Rattle.dressing.proofs.dress_row.Goals as goal
 

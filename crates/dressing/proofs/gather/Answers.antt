@@ -1,19 +1,16 @@
 -- The invariant of `gather`: the keys of the first i rows are stored.
-use Prim.Native.Nat.{◌≤◌, ◌-◌, ◌*◌}
 use mathlib.Core.Bool.{Bool, not}
-use mathlib.Core.List.{List, [], ◌∷◌, map, flat_map, Memᴰ}
+use mathlib.Core.List.{List, [], ◌∷◌, flat_map, Memᴰ}
 use mathlib.Core.Path.{◌≡◌, refl, sym, ap, ◌∙◌}
 use native.Mathlib.Numerals.{add-one}
 use native.Mathlib.Omega.{arith}
 use borrow.Author.Rules.{rules}
-use lib.ListN.{length, take}
 use Rattle.lists.specs.Lists.{those, numbers_from}
 use Rattle.lists.proofs.Images.{flat_map_snoc}
 use Rattle.rows.specs.declared.Row.{Row}
 use Rattle.rows.specs.Labels.{no_marks}
 use Rattle.rows.specs.Rows.{row_in, rows_in, holds_face}
 use Rattle.rows.proofs.RowsOfTables.{among_rows, rows_more}
-use Rattle.keys.specs.Steps.{row_faces, most_keys}
 use Rattle.marking.specs.Marking.{marked_faces}
 use Rattle.marking.specs.Steps.{marked_keys, keys_marked}
 use Rattle.dressing.proofs.gather.Goals as goal

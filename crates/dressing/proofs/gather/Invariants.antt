@@ -1,20 +1,11 @@
 use Prim.Native.Nat.{◌≤◌, ◌-◌, ◌*◌}
-use mathlib.Core.Bool.{Bool, not}
-use mathlib.Core.List.{List, [], ◌∷◌, map, flat_map, Memᴰ}
-use mathlib.Core.Path.{◌≡◌, refl, sym, ap, ◌∙◌}
-use native.Mathlib.Numerals.{add-one}
-use native.Mathlib.Omega.{arith}
-use borrow.Author.Rules.{rules}
+use mathlib.Core.Bool.{not}
+use mathlib.Core.List.{[], ◌∷◌}
+use mathlib.Core.Path.{◌≡◌}
 use lib.ListN.{length, take}
-use Rattle.lists.specs.Lists.{those, numbers_from}
-use Rattle.lists.proofs.Images.{flat_map_snoc}
-use Rattle.rows.specs.declared.Row.{Row}
-use Rattle.rows.specs.Labels.{no_marks}
-use Rattle.rows.specs.Rows.{row_in, rows_in, holds_face}
-use Rattle.rows.proofs.RowsOfTables.{among_rows, rows_more}
+use Rattle.rows.specs.Rows.{rows_in, holds_face}
 use Rattle.keys.specs.Steps.{row_faces, most_keys}
-use Rattle.marking.specs.Marking.{marked_faces}
-use Rattle.marking.specs.Steps.{marked_keys, keys_marked}
+use Rattle.marking.specs.Steps.{keys_marked}
 use Rattle.dressing.proofs.gather.Given as goal
 
 abbrev pub invariant-loop-i : goal.invariant-loop-i

@@ -1,11 +1,10 @@
 -- The invariant of `mark_goes`: none of the first i rows marks such a face.
-use Prim.Native.Nat.{ℕ, ◌≤◌, ◌-◌}
+use Prim.Native.Nat.{ℕ}
 use mathlib.Core.Bool.{false}
 use mathlib.Core.List.{List, [], ◌∷◌}
 use mathlib.Core.Path.{◌≡◌, refl, sym, ◌∙◌}
 use native.Mathlib.Numerals.{add-one}
 use native.Mathlib.Omega.{arith}
-use borrow.Author.Rules.{rules}
 use Rattle.lists.specs.Lists.{every, any, has, numbers_from}
 use Rattle.lists.proofs.Tests.{yes_is, no_is, is_yes}
 use Rattle.lists.proofs.Lists.{any_snoc, any_i, every_i, not_any}

@@ -1,19 +1,10 @@
-use Prim.Native.Nat.{ℕ, ◌≤◌, ◌-◌}
+use Prim.Native.Nat.{◌≤◌, ◌-◌}
 use mathlib.Core.Bool.{false}
-use mathlib.Core.List.{List, [], ◌∷◌}
-use mathlib.Core.Path.{◌≡◌, refl, sym, ◌∙◌}
-use native.Mathlib.Numerals.{add-one}
-use native.Mathlib.Omega.{arith}
-use borrow.Author.Rules.{rules}
-use Rattle.lists.specs.Lists.{every, any, has, numbers_from}
-use Rattle.lists.proofs.Tests.{yes_is, no_is, is_yes}
-use Rattle.lists.proofs.Lists.{any_snoc, any_i, every_i, not_any}
-use Rattle.rows.specs.declared.Row.{Row}
-use Rattle.rows.specs.Labels.{no_marks}
-use Rattle.rows.specs.Rows.{row_in, rows_in}
-use Rattle.rows.proofs.RowsOfTables.{among_rows, row_among, rows_more}
+use mathlib.Core.List.{[], ◌∷◌}
+use mathlib.Core.Path.{◌≡◌}
+use Rattle.lists.specs.Lists.{any}
+use Rattle.rows.specs.Rows.{rows_in}
 use Rattle.marking.specs.Marking.{marks_over}
-use Rattle.marking.proofs.AgreeByKeys.{unmarked_none}
 use Rattle.dressing.proofs.mark_goes.Given as goal
 
 abbrev pub invariant-loop-i : goal.invariant-loop-i

@@ -1,7 +1,6 @@
 -- The three numbers, one after the other.
 use Rattle.lists.specs.Lists.{every}
 use Rattle.lists.proofs.Tests.{and_true}
-use borrow.Author.Rules.{rules}
 use Rattle.dressing.proofs.marked_over.Goals as goal
 
 pub returns : goal.returns

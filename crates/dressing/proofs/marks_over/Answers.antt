@@ -2,7 +2,6 @@
 use Rattle.lists.specs.Lists.{any}
 use Rattle.lists.proofs.Tests.{or_false}
 use Rattle.marking.specs.Marking.{marked_faces, marks_over}
-use borrow.Author.Rules.{rules}
 use Rattle.dressing.proofs.marks_over.Goals as goal
 
 pub returns : goal.returns

@@ -1,6 +1,5 @@
 -- Both lengths are tested first; what is left is the answer of opening.
 use mathlib.Core.Path.{sym, ap, ◌∙◌}
-use borrow.Author.Rules.{rules}
 use Rattle.answers.specs.Answers.{answer_of}
 use Rattle.calls.proofs.CallTests.{out_opened}
 use Rattle.edge.proofs.EdgeAnswers.{block_1, out_1}

@@ -1,7 +1,6 @@
 -- Each way out is one case of the laws on answers 9 to 13.
-use mathlib.Core.Path.{◌≡◌, ◌∙◌}
+use mathlib.Core.Path.{◌∙◌}
 use native.Mathlib.Omega.{arith}
-use borrow.Author.Rules.{rules}
 use Rattle.tally.proofs.OpensMeasured.{block_size}
 use Rattle.edge.proofs.EdgeAnswers.{edge_9_first, edge_9_second, edge_9_same, edge_table, edge_ring}
 use Rattle.edge.proofs.edge_at.Goals as goal

@@ -1,23 +1,13 @@
 -- Each way out is one case of the laws on the 3-2 flip; with answers 9 to 13 behind it the edge has its ring, and with 20 its rows a region.
-use Prim.Native.Nat.{ℕ, ◌<◌}
-use mathlib.Core.List.{List}
-use mathlib.Core.Bool.{false}
 use mathlib.Core.Path.{◌≡◌}
 use native.Mathlib.Omega.{arith}
 use borrow.Author.Rules.{rules}
 use lib.ListN.{length}
-use Rattle.rows.specs.Regions.{region_of, mixed}
-use Rattle.answers.specs.declared.Answer.TheVariants.{Done}
-use Rattle.layout.specs.Layout.{block_bytes, fields_of}
-use Rattle.block.specs.Opening.{open_answer}
 use Rattle.tally.proofs.OpensMeasured.{block_size, few_rows}
-use Rattle.ring.specs.declared.Found.{Found}
-use Rattle.ring.specs.Ring.{site_of, rings_alone}
-use Rattle.calls.specs.Removing.{mark_lost}
+use Rattle.ring.specs.Ring.{rings_alone}
 use Rattle.cells.specs.Steps.{cells}
 use Rattle.layout.proofs.BytesOfSlices.{all_bytes}
 use Rattle.output.proofs.BlockAfterwards.{begun_version, begun_length}
-use Rattle.edge.specs.Steps.{edge_found}
 use Rattle.edge.proofs.EdgeRinged.{ends_bytes, ringed}
 use Rattle.edge_flip.proofs.FlippedEdges.{edge_refuses, not_three, several_regions, one_region, mark_lost_lem, marks_stay, no_way_lem, carriable, room_for, done_answer, done_bytes}
 use Rattle.edge_flip.proofs.flip_edge.Goals as goal

@@ -1,11 +1,7 @@
 -- `edge_tables::apex_at` reads the apex of the whole ring from the table of its pieces.
-use Prim.Native.Nat.{ℕ, ◌<◌}
-use mathlib.Core.List.{List}
-use mathlib.Core.Path.{◌≡◌, ap, ◌∙◌}
+use mathlib.Core.Path.{ap, ◌∙◌}
 use native.Mathlib.Omega.{arith}
-use borrow.Author.Rules.{rules}
-use lib.ListN.{length, get_or}
-use Rattle.layout.specs.Layout.{block_bytes}
+use lib.ListN.{get_or}
 use Rattle.edge_tables.proofs.EdgeTabled.{no_apex, whole, bytes, ready, ring_length, top}
 use Rattle.edge_tables.proofs.apex_at.Goals as goal
 

@@ -1,11 +1,6 @@
 -- Each way out is one case of the laws on an edge.
-use Prim.Native.Nat.{ℕ, ◌<◌}
-use mathlib.Core.List.{List}
-use mathlib.Core.Path.{◌≡◌, ◌∙◌}
+use mathlib.Core.Path.{◌∙◌}
 use native.Mathlib.Omega.{arith}
-use borrow.Author.Rules.{rules}
-use lib.ListN.{length}
-use Rattle.layout.specs.Layout.{block_bytes}
 use Rattle.edge_tables.proofs.EdgeTabled.{turned, refused, size, over, tabled, ring_found}
 use Rattle.edge_tables.proofs.ring_at.Goals as goal
 

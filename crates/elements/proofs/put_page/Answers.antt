@@ -1,5 +1,4 @@
 -- `put_page` writes both elements.
-use borrow.Author.Rules.{rules}
 use Rattle.elements.proofs.SlicesFilled.{two_filled}
 use Rattle.elements.proofs.put_page.Goals as goal
 

@@ -1,7 +1,6 @@
 -- `put_summary` writes all seven elements.
 use native.Mathlib.Omega.{arith}
 use lib.ListN.{length-set}
-use borrow.Author.Rules.{rules}
 use mathlib.Core.Path.{◌∙◌}
 use Rattle.elements.specs.Elements.{summary_numbers}
 use Rattle.elements.proofs.SlicesFilled.{seven_filled}

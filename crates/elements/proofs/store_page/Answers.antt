@@ -1,5 +1,4 @@
 -- `store_page` leaves on another length; then it writes the page row, or hands on the refusal.
-use borrow.Author.Rules.{rules}
 use mathlib.Core.Path.{sym, ap, ◌∙◌}
 use Rattle.calls.specs.Removing.{removal_number}
 use Rattle.elements.specs.Elements.{page_over}

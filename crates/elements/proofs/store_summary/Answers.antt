@@ -1,5 +1,4 @@
 -- `store_summary` leaves on another length; then it writes the summary, or hands on the refusal.
-use borrow.Author.Rules.{rules}
 use mathlib.Core.Path.{sym, ap, ◌∙◌}
 use Rattle.calls.specs.Summarising.{summary_number}
 use Rattle.elements.specs.Elements.{summary_over}

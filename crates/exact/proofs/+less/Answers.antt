@@ -1,5 +1,5 @@
 -- `exact::less` is the order by cross products: each return is one of the steps. The denominators together fall.
-use Prim.Native.Nat.{ℕ, ◌+◌, ◌*◌, ◌<◌}
+use Prim.Native.Nat.{◌*◌}
 use mathlib.Core.Path.{sym, ◌∙◌}
 use native.Mathlib.Nat.{le_of_lt, mod-lt}
 use native.Mathlib.Omega.{arith}

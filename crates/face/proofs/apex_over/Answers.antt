@@ -6,7 +6,6 @@ use mathlib.Core.Path.{◌≡◌, sym, ◌∙◌}
 use Rattle.lists.specs.Lists.{first, has}
 use Rattle.rows.specs.declared.Row.{Row}
 use Rattle.calls.specs.Flipping.{apex_over}
-use borrow.Author.Rules.{rules}
 use Rattle.face.proofs.apex_over.Goals as goal
 
 module _ (face : List ℕ) (row : Row) (p : Bool) (is-p : p ≡ not (has face row.p)) where

@@ -2,7 +2,6 @@
 use Prim.Native.Nat.{min}
 use mathlib.Core.Path.{ap, ◌∙◌}
 use Rattle.walk.specs.Walk.{smallest}
-use borrow.Author.Rules.{rules}
 use Rattle.face.proofs.least.Goals as goal
 
 pub returns : goal.returns

@@ -11,7 +11,6 @@ use Rattle.rows.proofs.PastedRows.{with_more}
 use Rattle.links.specs.Links.{Link}
 use Rattle.face.specs.declared.Sharing.{Sharing}
 use Rattle.face.specs.Steps.{three_of}
-use borrow.Author.Rules.{rules}
 use Rattle.face.proofs.put_three.Goals as goal
 
 -- a row of the edge a, b

@@ -1,9 +1,7 @@
 -- The invariant of `share`: what is kept is what the first i rows give.
-use Prim.Native.Nat.{◌≤◌, ◌-◌}
 use mathlib.Core.List.{[], ◌∷◌}
 use mathlib.Core.Path.{◌≡◌, ◌∙◌}
 use native.Mathlib.Omega.{arith}
-use borrow.Author.Rules.{rules}
 use Rattle.lists.specs.Lists.{any, those, first, numbers_from}
 use Rattle.rows.specs.Rows.{rows_in}
 use Rattle.rows.specs.Regions.{region_of, mixed}
@@ -11,7 +9,6 @@ use Rattle.rows.specs.Steps.{regions_of}
 use Rattle.rows.proofs.RowsOfTables.{rows_length}
 use Rattle.walk.specs.Walk.{smallest}
 use Rattle.calls.specs.Flipping.{pair_of}
-use Rattle.face.specs.Steps.{sharing_in}
 use Rattle.face.proofs.FaceShared.{share_few, held_next, other_next}
 use Rattle.face.proofs.share.Goals.{then-holds_face, else-holds_face}
 use Rattle.face.proofs.share.Goals as goal

@@ -1,7 +1,6 @@
 -- `with_row` goes by the cases of the definition.
 use borrow.Author.Tests.{eq-eqb, ne_eqb, lt-ltb, le-ltb}
 use Rattle.face.specs.Steps.{with_row}
-use borrow.Author.Rules.{rules}
 use Rattle.face.proofs.with_row.Goals as goal
 
 pub returns-then-found-eq0 : goal.returns-then-found-eq0

@@ -1,9 +1,8 @@
 -- `flip_face` tests the numbers of the face; what is left is the flip of a face with right numbers.
 use Prim.Native.Nat.{ℕ, ◌<◌}
-use mathlib.Core.List.{List, [], ◌∷◌, Memᴰ}
+use mathlib.Core.List.{[], ◌∷◌, Memᴰ}
 use mathlib.Core.Path.{refl}
 use native.Mathlib.Omega.{arith}
-use borrow.Author.Rules.{rules}
 use Rattle.tally.proofs.OpensMeasured.{block_size, few_points}
 use Rattle.face_flip.proofs.FaceGiven.{is_9, face_given, numbers_below}
 use Rattle.face_flip.proofs.flip_face.Goals as goal

@@ -1,7 +1,5 @@
 -- `flip_right` tests 10, 11, 18, 20, 23, 14 and 15, in this order, and writes only behind the last.
 use native.Mathlib.Omega.{arith}
-use borrow.Author.Tests.{not-true, not-false}
-use borrow.Author.Rules.{rules}
 use Rattle.layout.proofs.BytesOfSlices.{all_bytes}
 use Rattle.tally.proofs.OpensMeasured.{block_size, few_rows, marks_agree}
 use Rattle.face_flip.proofs.FlippedFaces.{few_kept, is_10, is_11, is_18, is_20, is_23, is_14, is_15, is_0}

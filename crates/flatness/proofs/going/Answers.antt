@@ -1,6 +1,5 @@
 -- A ring loses a row for each point, and a chain one fewer.
 use native.Mathlib.Omega.{arith}
-use borrow.Author.Rules.{rules}
 use Rattle.flatness.proofs.going.Goals as goal
 
 pub returns-then-closed : goal.returns-then-closed

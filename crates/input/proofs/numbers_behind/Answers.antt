@@ -4,7 +4,6 @@ use Prim.Native.Nat.{◌-◌, min}
 use lib.ListN.{length}
 use Rattle.input.specs.Steps.{most_numbers}
 use Rattle.input.proofs.NumbersBehind.{behind}
-use borrow.Author.Rules.{rules}
 use Rattle.input.proofs.numbers_behind.Goals as goal
 
 pub returns : goal.returns

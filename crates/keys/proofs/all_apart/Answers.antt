@@ -1,16 +1,13 @@
 -- The invariant of `all_apart`: the rows before `row` are apart.
-use Prim.Native.Nat.{suc, ◌≤◌, ◌-◌}
-use mathlib.Core.Bool.{true, ◌&&◌}
+use Prim.Native.Nat.{suc}
+use mathlib.Core.Bool.{◌&&◌}
 use mathlib.Core.Path.{◌≡◌, refl, sym, ap, ◌∙◌}
 use native.Mathlib.Numerals.{add-one}
 use native.Mathlib.Omega.{arith}
 use borrow.Author.Rules.{rules}
-use borrow.Author.Tests.{not-true, not-false}
-use lib.ListN.{length}
 use Rattle.lists.specs.Lists.{numbers_from}
 use Rattle.rows.specs.Rows.{rows_in}
 use Rattle.mesh.specs.Mesh.{faces_apart}
-use Rattle.keys.specs.Steps.{most_keys}
 use Rattle.keys.proofs.CheckedByKeys.{row_checked, apart_longer}
 use Rattle.keys.proofs.all_apart.Goals as goal
 

@@ -1,5 +1,5 @@
 -- The invariant of `among`: `found` says whether the key stands among the first i.
-use Prim.Native.Nat.{◌≤◌, ◌<◌, ◌-◌}
+use Prim.Native.Nat.{◌<◌}
 use mathlib.Core.Path.{◌≡◌, refl, sym, ap, ◌∙◌}
 use mathlib.Core.Bool.{◌||◌}
 use native.Mathlib.Numerals.{add-one}
@@ -7,7 +7,7 @@ use native.Mathlib.Omega.{arith}
 use lib.Dec.{eqb}
 use lib.ListN.{length, get_or, take}
 use lib.Seq.{take-suc}
-use Rattle.lists.specs.Lists.{any, has}
+use Rattle.lists.specs.Lists.{any}
 use Rattle.lists.proofs.Lists.{any_snoc}
 use Rattle.keys.proofs.among.Goals as goal
 

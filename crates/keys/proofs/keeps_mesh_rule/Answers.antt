@@ -1,7 +1,5 @@
 -- `keeps_mesh_rule` joins the two halves of the rule.
 use mathlib.Core.Path.{sym, ◌∙◌}
-use borrow.Author.Tests.{not-true, not-false}
-use borrow.Author.Rules.{rules}
 use Rattle.mesh.specs.Mesh.{keeps_mesh_rule}
 use Rattle.keys.proofs.keeps_mesh_rule.Goals as goal
 

@@ -1,5 +1,5 @@
 -- The invariant of `some_among`: `found` says whether one of the four keys stands among the first i.
-use Prim.Native.Nat.{◌≤◌, ◌<◌, ◌-◌}
+use Prim.Native.Nat.{◌<◌}
 use mathlib.Core.Path.{◌≡◌, refl, sym, ap, ◌∙◌}
 use mathlib.Core.Bool.{◌||◌}
 use native.Mathlib.Numerals.{add-one}

@@ -1,5 +1,5 @@
 -- The loop's invariant: the front of the one slice stands before the rest of the other.
-use Rattle.std.proofs.Common.{◌≡◌, ℕ, suc, ◌+◌, ◌-◌, ◌<◌, ◌≤◌, List, ◌++◌, length, get_or, take, drop, set, sym, refl, ◌∙◌, add-one, arith, length-set, length-take-le, drop-cons, take-suc}
+use Rattle.std.proofs.Common.{◌≡◌, ℕ, suc, ◌+◌, ◌<◌, List, ◌++◌, length, get_or, take, drop, set, sym, refl, ◌∙◌, add-one, arith, length-set, length-take-le, drop-cons, take-suc}
 use lib.Seq.{set_at, append_snoc, take-length}
 use Rattle.layout.proofs.copy.Goals as goal
 

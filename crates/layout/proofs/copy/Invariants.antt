@@ -1,5 +1,4 @@
-use Rattle.std.proofs.Common.{◌≡◌, ℕ, suc, ◌+◌, ◌-◌, ◌<◌, ◌≤◌, List, ◌++◌, length, get_or, take, drop, set, sym, refl, ◌∙◌, add-one, arith, length-set, length-take-le, drop-cons, take-suc}
-use lib.Seq.{set_at, append_snoc, take-length}
+use Rattle.std.proofs.Common.{◌≡◌, ◌-◌, ◌≤◌, ◌++◌, length, take, drop}
 use Rattle.layout.proofs.copy.Given as goal
 
 abbrev pub invariant-loop-i : goal.invariant-loop-i

@@ -1,5 +1,5 @@
 -- Each of the two tests that led to an answer decides it.
-use Rattle.std.proofs.Common.{◌≡◌, ℕ, ◌+◌, ◌/◌, ◌%◌, true, not, ◌&&◌, eqb, get_or, rules, eq-eqb, ne_eqb}
+use Rattle.std.proofs.Common.{◌≡◌, ℕ, ◌+◌, ◌/◌, ◌%◌, true, not, ◌&&◌, eqb, get_or, eq-eqb, ne_eqb}
 use Rattle.layout.proofs.differs.Goals as goal
 
 -- where the low bytes differ, the sum does

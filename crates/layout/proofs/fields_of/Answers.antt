@@ -1,5 +1,5 @@
 -- Each array is filled whole, from the part of the block that it holds.
-use Rattle.std.proofs.Common.{◌≡◌, ℕ, ◌≤◌, List, ◌++◌, length, drop, replicate, ap, ◌∙◌, append-nil, arith, drop_of_length-le, rules}
+use Rattle.std.proofs.Common.{◌≡◌, ℕ, ◌≤◌, List, ◌++◌, length, drop, replicate, ap, ◌∙◌, append-nil, arith, drop_of_length-le}
 use Rattle.layout.specs.declared.Fields.{Fields}
 use Rattle.layout.specs.Layout.{body_bytes, coordinates_of, table_of}
 use Rattle.layout.proofs.BlockParts.{part_length}

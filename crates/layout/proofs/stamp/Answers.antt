@@ -1,5 +1,4 @@
 -- The two sums are written where they belong.
-use Rattle.std.proofs.Common.{rules}
 use Rattle.layout.proofs.SumLaws.{stamped}
 use Rattle.layout.proofs.stamp.Goals as goal
 

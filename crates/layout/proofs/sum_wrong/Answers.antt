@@ -1,5 +1,4 @@
 -- The two tests are the two halves of what is tested of the last four bytes.
-use Rattle.std.proofs.Common.{rules}
 use Rattle.layout.proofs.SumLaws.{first_differs, second_decides}
 use Rattle.layout.proofs.sum_wrong.Goals as goal
 

@@ -1,6 +1,6 @@
 -- The loop's invariant: from the rest of the slice on, the sums so far come to the sums of the whole.
-use Rattle.std.proofs.Common.{◌≡◌, ℕ, ◌+◌, ◌-◌, ◌%◌, ◌^◌, ◌<◌, ◌≤◌, List, length, get_or, drop, sym, refl, ◌∙◌, add-one, arith, drop_of_length-le, drop-cons, rules}
-use Rattle.layout.specs.Layout.{sums_onto, sums_of}
+use Rattle.std.proofs.Common.{◌≡◌, ℕ, ◌+◌, ◌%◌, ◌^◌, ◌<◌, List, length, get_or, drop, sym, refl, ◌∙◌, add-one, arith, drop_of_length-le, drop-cons}
+use Rattle.layout.specs.Layout.{sums_onto}
 use Rattle.layout.proofs.sums_of.Goals as goal
 
 -- one byte, added to the first sum, and the first sum to the second

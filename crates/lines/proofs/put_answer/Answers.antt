@@ -1,5 +1,4 @@
 -- `put_answer` puts the word, the number and the end of the line.
-use mathlib.Core.Path.{refl}
 use Rattle.lines.specs.Lines.{text, line}
 use Rattle.text.proofs.BytesBehindAText.{then_put}
 use Rattle.lines.proofs.FieldsOfALine.{field_put, end_put}

@@ -1,5 +1,4 @@
 -- `put_mark` puts a space and the mark.
-use mathlib.Core.Path.{refl}
 use Rattle.lines.specs.Lines.{text, spaced, mark}
 use Rattle.lines.proofs.put_mark.Goals as goal
 

@@ -1,5 +1,4 @@
 -- `put_octave` puts the number, or the mark.
-use borrow.Author.Rules.{rules}
 use Rattle.lines.proofs.put_octave.Goals as goal
 
 pub put_number-requires : goal.put_number-requires

@@ -1,15 +1,11 @@
 -- The invariant of `put_ring`: the first i points of the ring stand behind the word, each as a field.
-use Prim.Native.Nat.{◌≤◌, ◌-◌}
-use mathlib.Core.List.{map, flat_map}
-use mathlib.Core.Path.{◌≡◌, refl}
+use mathlib.Core.List.{flat_map}
+use mathlib.Core.Path.{◌≡◌}
 use native.Mathlib.Numerals.{add-one}
 use native.Mathlib.Omega.{arith}
-use borrow.Author.Rules.{rules}
 use lib.ListN.{get_or, take}
 use lib.Seq.{take-suc}
-use Rattle.lines.specs.Lines.{text, spaced, line}
-use Rattle.text.specs.Decimal.{decimal}
-use Rattle.text.specs.Steps.{Behind}
+use Rattle.lines.specs.Lines.{text, line}
 use Rattle.text.proofs.BytesBehindAText.{none_put, then_put}
 use Rattle.lines.proofs.FieldsOfALine.{fields_put, fields_more}
 use Rattle.lines.proofs.put_ring.Goals as goal

@@ -1,9 +1,7 @@
 -- `put_row` puts the word, the five bytes of the row and the end of the line.
-use mathlib.Core.Path.{refl}
 use Rattle.lines.specs.Lines.{text, line}
 use Rattle.text.proofs.BytesBehindAText.{then_put}
 use Rattle.lines.proofs.FieldsOfALine.{field_put, end_put}
-use borrow.Author.Rules.{rules}
 use Rattle.lines.proofs.put_row.Goals as goal
 
 -- LEFT

@@ -1,5 +1,4 @@
 -- The invariant of `put_rows`: the lines of the rows up to row i stand behind the text.
-use Prim.Native.Nat.{◌≤◌, ◌-◌}
 use mathlib.Core.List.{[], ◌∷◌, flat_map}
 use mathlib.Core.Path.{◌≡◌}
 use native.Mathlib.Numerals.{add-one}
@@ -10,7 +9,6 @@ use Rattle.lists.proofs.Images.{flat_map_snoc}
 use Rattle.rows.specs.Rows.{row_in, rows_in}
 use Rattle.rows.proofs.RowsOfTables.{rows_length, rows_more}
 use Rattle.lines.specs.Lines.{row_line}
-use Rattle.text.specs.Steps.{Behind}
 use Rattle.text.proofs.BytesBehindAText.{none_put, then_put}
 use Rattle.lines.proofs.put_rows.Goals as goal
 

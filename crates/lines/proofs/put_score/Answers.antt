@@ -1,5 +1,4 @@
 -- `put_score` puts the number, or the mark.
-use borrow.Author.Rules.{rules}
 use Rattle.lines.proofs.put_score.Goals as goal
 
 pub value-requires : goal.value-requires

@@ -1,7 +1,6 @@
 -- `put_summary` puts five fields and the end of the line.
 use Rattle.lines.specs.Lines.{summary_fields}
 use Rattle.lines.proofs.FieldsOfALine.{field_put, end_put}
-use borrow.Author.Rules.{rules}
 use Rattle.lines.proofs.put_summary.Goals as goal
 
 pub put_number-upright-requires : goal.put_number-upright-requires

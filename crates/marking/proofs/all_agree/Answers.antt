@@ -1,11 +1,8 @@
 -- The invariant of `all_agree`: no row before i leaves a face unmarked that another row marks.
-use Prim.Native.Nat.{◌≤◌, ◌-◌}
 use mathlib.Core.Bool.{true, false}
 use mathlib.Core.Path.{◌≡◌, refl, sym, ◌∙◌}
 use native.Mathlib.Numerals.{add-one}
 use native.Mathlib.Omega.{arith}
-use borrow.Author.Rules.{rules}
-use borrow.Author.Tests.{not-true, not-false}
 use lib.ListN.{take}
 use Rattle.lists.specs.Lists.{every, numbers_from}
 use Rattle.lists.proofs.Lists.{every_no, every_snoc}

@@ -1,7 +1,6 @@
 -- A face that is not marked is looked for, turned over, among the keys.
 use mathlib.Core.Bool.{not}
 use mathlib.Core.Path.{ap}
-use borrow.Author.Rules.{rules}
 use Rattle.marking.proofs.face_agrees.Goals as goal
 
 pub returns : goal.returns

@@ -1,5 +1,4 @@
 -- A face turned over has its second and third number exchanged.
-use borrow.Author.Rules.{rules}
 use Rattle.marking.proofs.key_of.Goals as goal
 
 pub returns-then-over : goal.returns-then-over

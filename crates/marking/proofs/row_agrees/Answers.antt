@@ -1,5 +1,4 @@
 -- The four faces, one after the other, in the order of the definition.
-use borrow.Author.Rules.{rules}
 use Rattle.lists.specs.Lists.{every}
 use Rattle.lists.proofs.Tests.{and_true}
 use Rattle.marking.specs.Marking.{marked_faces}

@@ -1,17 +1,10 @@
 use Prim.Native.Nat.{◌≤◌, ◌-◌, ◌*◌}
 use mathlib.Core.Bool.{false}
-use mathlib.Core.List.{flat_map}
-use mathlib.Core.Path.{◌≡◌, refl, sym, ap, ◌∙◌}
-use native.Mathlib.Numerals.{add-one}
-use native.Mathlib.Omega.{arith}
-use borrow.Author.Rules.{rules}
+use mathlib.Core.Path.{◌≡◌}
 use lib.ListN.{length, take}
-use Rattle.lists.specs.Lists.{numbers_from}
-use Rattle.lists.proofs.Images.{flat_map_snoc}
-use Rattle.rows.specs.Rows.{row_in, rows_in}
-use Rattle.rows.proofs.RowsOfTables.{rows_more}
+use Rattle.rows.specs.Rows.{rows_in}
 use Rattle.keys.specs.Steps.{row_faces, most_keys}
-use Rattle.marking.specs.Steps.{marked_keys, keys_marked}
+use Rattle.marking.specs.Steps.{keys_marked}
 use Rattle.marking.proofs.store_all.Given as goal
 
 abbrev pub invariant-loop-i : goal.invariant-loop-i

@@ -2,8 +2,6 @@
 use mathlib.Core.List.{append-nil}
 use mathlib.Core.Path.{sym}
 use native.Mathlib.Omega.{arith}
-use borrow.Author.Rules.{rules}
-use borrow.Author.Tests.{not-true, not-false}
 use lib.ListN.{length-set}
 use Rattle.marking.proofs.MarkedKeys.{stored_behind}
 use Rattle.marking.proofs.store_face.Goals as goal

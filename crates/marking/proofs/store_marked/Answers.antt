@@ -2,7 +2,6 @@
 use mathlib.Core.List.{◌++◌}
 use mathlib.Core.Path.{ap, ◌∙◌}
 use native.Mathlib.Omega.{arith}
-use borrow.Author.Rules.{rules}
 use lib.ListN.{take}
 use Rattle.marking.proofs.MarkedKeys.{key_if, keys_four}
 use Rattle.marking.proofs.store_marked.Goals as goal

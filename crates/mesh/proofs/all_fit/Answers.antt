@@ -1,11 +1,7 @@
 -- The invariant of `all_fit`: the first i rows fit.
-use Prim.Native.Nat.{◌≤◌, ◌-◌}
-use mathlib.Core.Bool.{true}
 use mathlib.Core.Path.{◌≡◌, refl, sym, ap, ◌∙◌}
 use native.Mathlib.Numerals.{add-one}
 use native.Mathlib.Omega.{arith}
-use borrow.Author.Rules.{rules}
-use borrow.Author.Tests.{not-true, not-false}
 use Rattle.lists.specs.Lists.{every, numbers_from}
 use Rattle.lists.proofs.Lists.{every_snoc, every_no}
 use Rattle.rows.specs.Rows.{row_in, rows_in}

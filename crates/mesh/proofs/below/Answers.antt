@@ -1,7 +1,6 @@
 -- `below` tests the four numbers one after the other, in the order of the definition.
 use mathlib.Core.Path.{sym}
 use borrow.Author.Tests.{lt-ltb, le-ltb}
-use borrow.Author.Rules.{rules}
 use Rattle.lists.specs.Lists.{every}
 use Rattle.lists.proofs.Tests.{and_true}
 use Rattle.mesh.proofs.below.Goals as goal

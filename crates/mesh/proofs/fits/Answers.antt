@@ -1,7 +1,5 @@
 -- `fits` joins the two tests of a row.
 use mathlib.Core.Path.{sym, ◌∙◌}
-use borrow.Author.Tests.{not-true, not-false}
-use borrow.Author.Rules.{rules}
 use Rattle.mesh.specs.Mesh.{numbers_fit}
 use Rattle.mesh.proofs.fits.Goals as goal
 

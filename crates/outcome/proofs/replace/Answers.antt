@@ -1,9 +1,5 @@
 -- The chosen triangulation is carried out, and the page row is of the rows before and after.
-use mathlib.Core.Path.{◌≡◌}
 use native.Mathlib.Omega.{arith}
-use borrow.Author.Rules.{rules}
-use lib.ListN.{length}
-use Rattle.layout.specs.Layout.{block_bytes}
 use Rattle.tally.proofs.OpensMeasured.{block_size}
 use Rattle.outcome.proofs.RowsAfterwards.{carriable, measured, replaced}
 use Rattle.outcome.proofs.replace.Goals as goal

@@ -1,7 +1,6 @@
 -- `begin` copies the front and clears the bytes of the rows.
-use mathlib.Core.Path.{refl, ◌∙◌}
+use mathlib.Core.Path.{refl}
 use native.Mathlib.Omega.{arith}
-use borrow.Author.Rules.{rules}
 use Rattle.block.proofs.RightBlocks.{right_block}
 use Rattle.output.proofs.BlockAfterwards.{front_cleared}
 use Rattle.output.proofs.begin.Goals as goal

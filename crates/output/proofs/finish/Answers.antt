@@ -1,7 +1,6 @@
 -- `finish` stores the number of rows and stamps the sums.
 use mathlib.Core.Path.{◌∙◌}
 use native.Mathlib.Omega.{arith}
-use borrow.Author.Rules.{rules}
 use lib.ListN.{length-set}
 use Rattle.output.proofs.finish.Goals as goal
 

@@ -1,12 +1,10 @@
 -- The invariant of `keep_others`: the rows that stay, of the first i, stand at the front of the other table.
-use Prim.Native.Nat.{◌≤◌, ◌-◌}
 use mathlib.Core.Path.{◌≡◌, refl, ◌∙◌}
 use native.Mathlib.Omega.{arith}
-use borrow.Author.Rules.{rules}
 use Rattle.lists.specs.Lists.{those, numbers_from}
 use Rattle.rows.specs.Rows.{rows_in}
 use Rattle.rows.proofs.PastedRows.{with_none}
-use Rattle.output.proofs.RowsThatStay.{Front, front_length, stays_more, goes_more}
+use Rattle.output.proofs.RowsThatStay.{front_length, stays_more, goes_more}
 use Rattle.output.proofs.keep_others.Goals.{then-row_stays, else-row_stays}
 use Rattle.output.proofs.keep_others.Goals as goal
 

@@ -1,7 +1,6 @@
 -- `row_stays` turns `holds_face` round.
 use mathlib.Core.Bool.{not}
 use mathlib.Core.Path.{ap}
-use borrow.Author.Rules.{rules}
 use Rattle.output.specs.Output.{stays}
 use Rattle.output.proofs.row_stays.Goals as goal
 

@@ -1,5 +1,4 @@
 -- `page::quotient` is `quotient`: the library's conversion rounds to the nearest, whatever the number.
-use Rattle.std.proofs.Common.{rules}
 use Rattle.page.specs.Page.{quotient}
 use Rattle.page.proofs.quotient.Goals as goal
 

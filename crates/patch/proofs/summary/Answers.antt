@@ -1,6 +1,5 @@
 -- A refusal of opening is handed on; a block that opens can be measured.
 use native.Mathlib.Omega.{arith}
-use borrow.Author.Rules.{rules}
 use Rattle.block.specs.Opening.{open_answer}
 use Rattle.tally.proofs.OpensMeasured.{block_size, opens_measured}
 use Rattle.calls.proofs.HandedOn.{handed_done}

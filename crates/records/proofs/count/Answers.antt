@@ -1,6 +1,5 @@
 -- A byte fits.
 use native.Mathlib.Omega.{arith}
-use borrow.Author.Rules.{rules}
 use Rattle.records.proofs.count.Goals as goal
 
 pub overflow_cast-n : goal.overflow_cast-n

@@ -1,7 +1,6 @@
 -- Two numbers of two bytes are one of four.
 use native.Mathlib.Omega.{arith}
 use Rattle.records.specs.Records.{four_at}
-use borrow.Author.Rules.{rules}
 use Rattle.records.proofs.four_at.Goals as goal
 
 pub returns : goal.returns

@@ -1,7 +1,6 @@
 -- Two numbers of four bytes are one of eight.
 use native.Mathlib.Omega.{arith}
 use Rattle.records.specs.Records.{number_at}
-use borrow.Author.Rules.{rules}
 use Rattle.records.proofs.number_at.Goals as goal
 
 pub returns : goal.returns

@@ -1,7 +1,6 @@
 -- Two bytes are below 65,536.
 use Prim.Native.Nat.{◌+◌}
 use native.Mathlib.Omega.{arith}
-use borrow.Author.Rules.{rules}
 use Rattle.records.proofs.two_at.Goals as goal
 
 pub overflow_cast-result : goal.overflow_cast-result

@@ -4,8 +4,6 @@ use mathlib.Core.Path.{◌≡◌, ◌∙◌}
 use native.Mathlib.Omega.{arith}
 use borrow.Author.Rules.{rules}
 use lib.ListN.{length}
-use Rattle.layout.specs.Layout.{block_bytes}
-use Rattle.block.specs.Opening.{open_answer}
 use Rattle.layout.proofs.BytesOfSlices.{all_bytes}
 use Rattle.output.proofs.BlockAfterwards.{begun_version, begun_length}
 use Rattle.cells.specs.Steps.{cells}

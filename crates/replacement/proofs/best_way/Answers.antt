@@ -1,5 +1,4 @@
 -- What is read at the whole of the table of pieces is the best way.
-use borrow.Author.Rules.{rules}
 use Rattle.triangulation.specs.Steps.{site_in}
 use Rattle.replacement.proofs.WayRead.{way_read}
 use Rattle.replacement.proofs.best_way.Goals as goal

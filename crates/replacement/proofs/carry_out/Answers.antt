@@ -1,6 +1,5 @@
 -- The rows that stay and the rows of the apexes are the table afterwards.
 use native.Mathlib.Omega.{arith}
-use borrow.Author.Rules.{rules}
 use Rattle.replacement.proofs.CarriedOut.{keep_room, expand_ready, expand_room, dress_room, carried_out}
 use Rattle.replacement.proofs.carry_out.Goals as goal
 

@@ -1,9 +1,7 @@
 -- `first_lines` makes both summaries, neither of which is refused, and puts one line behind another.
-use mathlib.Core.Path.{refl}
 use Rattle.lines.specs.Lines.{text, line}
 use Rattle.text.proofs.BytesBehindAText.{put_first, then_put}
 use Rattle.report.proofs.OpenBlocksSummed.{never_refused, summary_is_lem}
-use borrow.Author.Rules.{rules}
 use Rattle.report.proofs.first_lines.Goals as goal
 
 pub summary-given-requires : goal.summary-given-requires

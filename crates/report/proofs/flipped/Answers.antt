@@ -2,7 +2,6 @@
 use Rattle.text.proofs.BytesBehindAText.{whole}
 use Rattle.report.specs.Steps.{flip_lines}
 use Rattle.report.proofs.ShortReports.{flip_short}
-use borrow.Author.Rules.{rules}
 use Rattle.report.proofs.flipped.Goals as goal
 
 pub returns : goal.returns

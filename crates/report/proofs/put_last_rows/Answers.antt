@@ -2,7 +2,6 @@
 use native.Mathlib.Omega.{arith}
 use Rattle.layout.specs.Layout.{fields_of}
 use Rattle.block.proofs.RightBlocks.{right_block}
-use borrow.Author.Rules.{rules}
 use Rattle.report.proofs.put_last_rows.Goals as goal
 
 pub bounds-output-2 : goal.bounds-output-2

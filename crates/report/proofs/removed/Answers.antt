@@ -2,7 +2,6 @@
 use Rattle.text.proofs.BytesBehindAText.{whole}
 use Rattle.report.specs.Steps.{removal_lines}
 use Rattle.report.proofs.ShortReports.{removal_short}
-use borrow.Author.Rules.{rules}
 use Rattle.report.proofs.removed.Goals as goal
 
 pub returns : goal.returns

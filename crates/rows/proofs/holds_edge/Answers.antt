@@ -1,7 +1,6 @@
 -- `holds_edge` asks for both ends, one after the other.
 use mathlib.Core.Bool.{Bool, true, false, ◌&&◌}
 use mathlib.Core.Path.{◌≡◌, sym, ◌∙◌}
-use borrow.Author.Rules.{rules}
 use Rattle.rows.proofs.holds_edge.Goals as goal
 
 yes-then : {x y r s : Bool} → r ≡ x → r ≡ true → s ≡ y → s ≡ x && y

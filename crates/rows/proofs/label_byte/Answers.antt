@@ -1,6 +1,5 @@
 -- `label_byte` writes region and marks as the version says; in version 2 they share a byte.
 use native.Mathlib.Omega.{arith}
-use borrow.Author.Rules.{rules}
 use borrow.Author.Tests.{eq-eqb, ne_eqb}
 use Rattle.rows.specs.Labels.{label_byte}
 use Rattle.rows.proofs.label_byte.Goals as goal

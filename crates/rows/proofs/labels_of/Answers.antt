@@ -1,5 +1,4 @@
 -- `labels_of` reads the byte as its version says.
-use borrow.Author.Rules.{rules}
 use borrow.Author.Tests.{eq-eqb, ne_eqb}
 use Rattle.rows.specs.Labels.{labels_of}
 use Rattle.rows.proofs.labels_of.Goals as goal

@@ -1,5 +1,4 @@
 -- `plain` marks no face.
-use borrow.Author.Rules.{rules}
 use Rattle.rows.proofs.plain.Goals as goal
 
 pub returns : goal.returns

@@ -1,6 +1,5 @@
 -- `put_row` stores the five bytes of a row next to one another, the last of them by the version of the block.
 use native.Mathlib.Omega.{arith}
-use borrow.Author.Rules.{rules}
 use lib.ListN.{length-set}
 use Rattle.rows.proofs.PastedRows.{with_one_lem}
 use Rattle.rows.proofs.put_row.Goals as goal

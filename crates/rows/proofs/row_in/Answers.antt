@@ -1,5 +1,4 @@
 -- `row_in` reads the five bytes of the row, in order, and the version of the block for the last of them.
-use borrow.Author.Rules.{rules}
 use Rattle.rows.proofs.RowsOfTables.{row_is}
 use Rattle.rows.proofs.row_in.Goals as goal
 

@@ -1,5 +1,4 @@
 -- A block of version 1 has no marks.
-use borrow.Author.Rules.{rules}
 use Rattle.rows.specs.Labels.{labels_of}
 use Rattle.rows.specs.Rows.{stored_row, row_in}
 use Rattle.rows.proofs.unmarked.Goals as goal

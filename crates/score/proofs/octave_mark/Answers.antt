@@ -1,6 +1,5 @@
 -- `score::octave_mark` is the octave with its mark: the test of the code is that of the definition.
 use mathlib.Core.Path.{ap}
-use borrow.Author.Rules.{rules}
 use borrow.Author.Tests.{eq-eqb, ne_eqb}
 use Rattle.score.specs.declared.Octave.TheVariants.{Exponent}
 use Rattle.score.proofs.octave_mark.Goals as goal

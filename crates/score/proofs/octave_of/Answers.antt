@@ -1,11 +1,10 @@
 -- `score::octave_of` is `octave_of`: `half` is the total halved once more than `exponent` says, and n of it are left exactly
 -- where the next exponent is reached.
-use Prim.Native.Nat.{ℕ, suc, ◌+◌, ◌-◌, ◌*◌, ◌/◌, ◌^◌, ◌≤◌, ◌<◌}
+use Prim.Native.Nat.{ℕ, suc, ◌+◌, ◌*◌, ◌/◌, ◌^◌, ◌≤◌, ◌<◌}
 use mathlib.Core.Path.{◌≡◌, refl}
 use native.Mathlib.Nat.{pow-suc, one-le-pow, le_antisymm, div-div-eq-div-mul, div-lt_iff_lt-mul, le-div_iff_mul-le}
 use native.Mathlib.Numerals.{add-one}
 use native.Mathlib.Omega.{arith}
-use Rattle.score.specs.Score.{octave_limit, octave_of}
 use Rattle.score.proofs.OctaveLargest.{octave_within, octave_largest, octave_below}
 use Rattle.score.proofs.octave_of.Goals as goal
 

@@ -1,10 +1,9 @@
 -- `score::score_of` is the largest n that is reached: it stays at or over `low` and below `high`, which close in on it.
-use Prim.Native.Nat.{◌+◌, ◌-◌, ◌/◌, ◌≤◌, ◌<◌}
+use Prim.Native.Nat.{◌+◌, ◌/◌}
 use mathlib.Core.Path.{sym, ◌∙◌}
 use native.Mathlib.Omega.{arith}
 use borrow.Author.Tests.{leb-true, leb-false}
-use Rattle.score.specs.Score.{highest_score}
-use Rattle.score.proofs.ScoreLargest.{score_of_size, size_score_within, size_score_largest, size_score_below}
+use Rattle.score.proofs.ScoreLargest.{size_score_within, size_score_largest, size_score_below}
 use Rattle.score.proofs.score_of.Goals as goal
 
 pub loop-low-init : goal.loop-low-init

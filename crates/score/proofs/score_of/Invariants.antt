@@ -1,9 +1,6 @@
-use Prim.Native.Nat.{◌+◌, ◌-◌, ◌/◌, ◌≤◌, ◌<◌}
-use mathlib.Core.Path.{sym, ◌∙◌}
-use native.Mathlib.Omega.{arith}
-use borrow.Author.Tests.{leb-true, leb-false}
+use Prim.Native.Nat.{◌+◌, ◌-◌, ◌≤◌, ◌<◌}
 use Rattle.score.specs.Score.{highest_score}
-use Rattle.score.proofs.ScoreLargest.{score_of_size, size_score_within, size_score_largest, size_score_below}
+use Rattle.score.proofs.ScoreLargest.{score_of_size}
 use Rattle.score.proofs.score_of.Given as goal
 
 abbrev pub invariant-loop-low : goal.invariant-loop-low

@@ -1,5 +1,4 @@
 -- `added_by` is what the definition adds, case by case.
-use borrow.Author.Rules.{rules}
 use mathlib.Core.Path.{sym, ap, ◌∙◌}
 use Rattle.score.specs.Score.{added}
 use Rattle.summary.proofs.added_by.Goals as goal

@@ -1,5 +1,4 @@
 -- `score_met` is `score_met`, case by case.
-use borrow.Author.Rules.{rules}
 use Rattle.summary.proofs.score_met.Goals as goal
 
 pub returns-in-Worst : goal.returns-in-Worst

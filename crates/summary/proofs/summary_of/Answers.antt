@@ -1,10 +1,7 @@
 -- The invariant of `summary_of`: the tally is that of the first i rows.
-use Prim.Native.Nat.{◌≤◌, ◌-◌}
-use mathlib.Core.List.{map}
 use mathlib.Core.Path.{◌≡◌, refl, ap, ◌∙◌}
 use native.Mathlib.Numerals.{add-one}
 use native.Mathlib.Omega.{arith}
-use borrow.Author.Rules.{rules}
 use Rattle.lists.specs.Lists.{numbers_from, those}
 use Rattle.volume.specs.Volume.{points_in}
 use Rattle.quality.specs.Quality.{worst}

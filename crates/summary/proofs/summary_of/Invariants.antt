@@ -1,20 +1,10 @@
 use Prim.Native.Nat.{◌≤◌, ◌-◌}
 use mathlib.Core.List.{map}
-use mathlib.Core.Path.{◌≡◌, refl, ap, ◌∙◌}
-use native.Mathlib.Numerals.{add-one}
-use native.Mathlib.Omega.{arith}
-use borrow.Author.Rules.{rules}
-use Rattle.lists.specs.Lists.{numbers_from, those}
+use mathlib.Core.Path.{◌≡◌}
 use Rattle.volume.specs.Volume.{points_in}
-use Rattle.quality.specs.Quality.{worst}
-use Rattle.score.specs.Score.{total_badness}
 use Rattle.rows.specs.Rows.{rows_in}
 use Rattle.rows.specs.RowMeasure.{row_quality}
-use Rattle.layout.proofs.BytesOfSlices.{all_bytes}
-use Rattle.tally.specs.Tally.{patch_in}
-use Rattle.summary.specs.Steps.{tallied}
-use Rattle.tally.proofs.MeasuredRows.{measured_row}
-use Rattle.summary.proofs.TallyRowByRow.{tally_of, summary_is_lem, row_tally, unwrapped}
+use Rattle.summary.proofs.TallyRowByRow.{tally_of}
 use Rattle.summary.proofs.summary_of.Given as goal
 
 abbrev pub invariant-loop-i : goal.invariant-loop-i

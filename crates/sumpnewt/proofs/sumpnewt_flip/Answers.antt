@@ -1,5 +1,4 @@
 -- `sumpnewt_flip` hands on the number and the bytes of the call behind it.
-use borrow.Author.Rules.{rules}
 use Rattle.sumpnewt.proofs.HandedToC.{handed}
 use Rattle.sumpnewt.proofs.sumpnewt_flip.Goals as goal
 

@@ -1,5 +1,4 @@
 -- `sumpnewt_open` hands on the number of opening.
-use borrow.Author.Rules.{rules}
 use mathlib.Core.Path.{◌∙◌, ap}
 use Rattle.block.specs.declared.Opened.{Opened}
 use Rattle.answers.specs.Answers.{number_of}

@@ -1,5 +1,4 @@
 -- `sumpnewt_page` hands on the number and the page row of the removal.
-use borrow.Author.Rules.{rules}
 use Rattle.sumpnewt.proofs.HandedToC.{page_handed}
 use Rattle.sumpnewt.proofs.sumpnewt_page.Goals as goal
 

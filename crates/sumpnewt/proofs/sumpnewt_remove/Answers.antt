@@ -1,5 +1,4 @@
 -- `sumpnewt_remove` hands on the number and the bytes of the removal.
-use borrow.Author.Rules.{rules}
 use Rattle.sumpnewt.proofs.HandedToC.{removal_handed}
 use Rattle.sumpnewt.proofs.sumpnewt_remove.Goals as goal
 

@@ -1,5 +1,4 @@
 -- `sumpnewt_shown` hands on the number and the elements of the call behind it.
-use borrow.Author.Rules.{rules}
 use Rattle.sumpnewt.proofs.HandedToC.{handed}
 use Rattle.sumpnewt.proofs.sumpnewt_shown.Goals as goal
 

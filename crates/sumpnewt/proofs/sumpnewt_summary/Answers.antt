@@ -1,5 +1,4 @@
 -- `sumpnewt_summary` hands on the number and the summary of the call behind it.
-use borrow.Author.Rules.{rules}
 use Rattle.sumpnewt.proofs.HandedToC.{summary_handed}
 use Rattle.sumpnewt.proofs.sumpnewt_summary.Goals as goal
 

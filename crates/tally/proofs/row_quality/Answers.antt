@@ -1,7 +1,6 @@
 -- `row_quality` is `row_quality`: each number of the row is read as its point.
 use mathlib.Core.Path.{◌∙◌}
 use Rattle.tally.proofs.MeasuredRows.{row_quality_from}
-use borrow.Author.Rules.{rules}
 use Rattle.tally.proofs.row_quality.Goals as goal
 
 pub returns : goal.returns

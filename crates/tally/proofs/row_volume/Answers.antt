@@ -2,7 +2,6 @@
 use mathlib.Core.Path.{◌∙◌}
 use Rattle.volume.proofs.VolumeComputed.{read}
 use Rattle.tally.proofs.MeasuredRows.{row_D_from}
-use borrow.Author.Rules.{rules}
 use Rattle.tally.proofs.row_volume.Goals as goal
 
 pub returns : goal.returns

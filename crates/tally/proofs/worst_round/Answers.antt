@@ -1,10 +1,8 @@
 -- The invariant of `worst_round`: what was met is the worst of those of the first i rows that hold both ends.
-use Prim.Native.Nat.{◌≤◌, ◌-◌}
 use mathlib.Core.List.{map}
 use mathlib.Core.Path.{◌≡◌, refl, sym, ap, ◌∙◌}
 use native.Mathlib.Numerals.{add-one}
 use native.Mathlib.Omega.{arith}
-use borrow.Author.Rules.{rules}
 use Rattle.lists.specs.Lists.{numbers_from, those}
 use Rattle.volume.specs.Volume.{points_in}
 use Rattle.quality.specs.Quality.{worst}
@@ -12,7 +10,7 @@ use Rattle.rows.specs.Rows.{row_in, rows_in, holds_edge}
 use Rattle.rows.specs.RowMeasure.{row_quality}
 use Rattle.tally.specs.Steps.{or_zero}
 use Rattle.tally.proofs.MeasuredRows.{measured_row}
-use Rattle.tally.proofs.WorstRowByRow.{met, or_zero_of, passing_met, other_met}
+use Rattle.tally.proofs.WorstRowByRow.{or_zero_of, passing_met, other_met}
 use Rattle.tally.proofs.worst_round.Goals.{then-holds_edge, else-holds_edge}
 use Rattle.tally.proofs.worst_round.Goals as goal
 

@@ -1,10 +1,8 @@
 -- The invariant of `worst_row`: what is kept is the worst of the first i rows, of which there is one.
-use Prim.Native.Nat.{◌≤◌, ◌-◌}
 use mathlib.Core.List.{map}
 use mathlib.Core.Path.{◌≡◌, ap, ◌∙◌}
 use native.Mathlib.Numerals.{add-one}
 use native.Mathlib.Omega.{arith}
-use borrow.Author.Rules.{rules}
 use Rattle.lists.specs.Lists.{numbers_from}
 use Rattle.volume.specs.Volume.{points_in}
 use Rattle.quality.specs.Quality.{worst}
@@ -13,7 +11,7 @@ use Rattle.rows.specs.RowMeasure.{row_quality}
 use Rattle.tally.specs.declared.Met.TheVariants.{Worst}
 use Rattle.tally.specs.Steps.{worst_with, or_zero}
 use Rattle.tally.proofs.MeasuredRows.{measured_row}
-use Rattle.tally.proofs.WorstRowByRow.{met, or_zero_of, row_met}
+use Rattle.tally.proofs.WorstRowByRow.{or_zero_of, row_met}
 use Rattle.tally.proofs.worst_row.Goals as goal
 
 pub returns-then-n-eq0 : goal.returns-then-n-eq0

@@ -1,18 +1,12 @@
 use Prim.Native.Nat.{◌≤◌, ◌-◌}
 use mathlib.Core.List.{map}
-use mathlib.Core.Path.{◌≡◌, ap, ◌∙◌}
-use native.Mathlib.Numerals.{add-one}
-use native.Mathlib.Omega.{arith}
-use borrow.Author.Rules.{rules}
-use Rattle.lists.specs.Lists.{numbers_from}
+use mathlib.Core.Path.{◌≡◌}
 use Rattle.volume.specs.Volume.{points_in}
 use Rattle.quality.specs.Quality.{worst}
 use Rattle.rows.specs.Rows.{rows_in}
 use Rattle.rows.specs.RowMeasure.{row_quality}
 use Rattle.tally.specs.declared.Met.TheVariants.{Worst}
-use Rattle.tally.specs.Steps.{worst_with, or_zero}
-use Rattle.tally.proofs.MeasuredRows.{measured_row}
-use Rattle.tally.proofs.WorstRowByRow.{met, or_zero_of, row_met}
+use Rattle.tally.proofs.WorstRowByRow.{met}
 use Rattle.tally.proofs.worst_row.Given as goal
 
 abbrev pub invariant-loop-i : goal.invariant-loop-i

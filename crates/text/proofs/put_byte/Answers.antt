@@ -1,5 +1,4 @@
 -- `put_byte` stores a byte behind the text, or leaves a full text as it is.
-use borrow.Author.Rules.{rules}
 use Rattle.text.proofs.BytesBehindAText.{byte_dropped, byte_put}
 use Rattle.text.proofs.put_byte.Goals as goal
 

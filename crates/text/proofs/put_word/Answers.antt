@@ -1,12 +1,11 @@
 -- The invariant of `put_word`: the first i bytes of the word stand behind the text.
-use Prim.Native.Nat.{◌≤◌, ◌<◌, ◌-◌}
+use Prim.Native.Nat.{◌<◌}
 use mathlib.Core.Path.{◌≡◌, refl}
 use native.Mathlib.Numerals.{add-one}
 use native.Mathlib.Omega.{arith}
 use borrow.Author.Rules.{rules}
-use lib.ListN.{length, take}
+use lib.ListN.{length}
 use lib.Seq.{take-suc, take-length}
-use Rattle.text.specs.Steps.{Behind}
 use Rattle.text.proofs.BytesBehindAText.{none_put, then_put}
 use Rattle.text.proofs.put_word.Goals as goal
 

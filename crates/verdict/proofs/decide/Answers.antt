@@ -1,15 +1,5 @@
 -- Each way out is one case of the laws on answers 19, 20, 23 and 14 to 16.
-use Prim.Native.Nat.{◌≤◌}
-use mathlib.Core.Bool.{false}
-use mathlib.Core.Path.{◌≡◌, sym, ◌∙◌}
-use borrow.Author.Rules.{rules}
-use borrow.Author.Tests.{not-true, not-false}
-use Rattle.layout.specs.Layout.{max_rows}
-use Rattle.ring.specs.Ring.{Site, not_flat}
-use Rattle.rows.specs.Regions.{region_of, mixed}
-use Rattle.triangulation.specs.Triangulation.{rows_after}
-use Rattle.triangulation.specs.Steps.{site_in}
-use Rattle.calls.specs.Removing.{mark_lost}
+use mathlib.Core.Path.{sym, ◌∙◌}
 use Rattle.verdict.proofs.VerdictAnswers.{countable, crossed, flat_is, lost_is, one_told, has_room}
 use Rattle.verdict.proofs.VerdictAnswers.{gives_19, gives_20, gives_23, gives_14, gives_15, gives_16, gives_0}
 use Rattle.verdict.proofs.decide.Goals as goal

@@ -1,5 +1,4 @@
 -- `volume::beyond` is the difference of its bytes, which an i64 holds.
-use borrow.Author.Rules.{rules}
 use native.Mathlib.Omega.{arith}
 use mathlib.Core.Path.{refl}
 use lib.IntN.{pos, ◌-ℤ◌}

@@ -1,5 +1,4 @@
 -- `volume::determinant` is the determinant of its rows, from their minors.
-use borrow.Author.Rules.{rules}
 use mathlib.Core.Path.{◌∙◌}
 use mir.Facts.{to_z-of_z}
 use Rattle.volume.proofs.VolumeComputed.{read, determinant_from}

@@ -1,5 +1,4 @@
 -- `volume::point_in` reads the three bytes of point i, all within the slice.
-use borrow.Author.Rules.{rules}
 use Rattle.volume.proofs.PointsInBytes.{point_at}
 use Rattle.volume.proofs.point_in.Goals as goal
 

@@ -1,5 +1,4 @@
 -- `volume::spread` is S, the sum of six squared lengths; the bound is that of bytes.
-use borrow.Author.Rules.{rules}
 use native.Mathlib.Omega.{arith}
 use Rattle.volume.proofs.VolumeComputed.{S_from}
 use Rattle.volume.proofs.VolumeBounds.{S_of_bytes}

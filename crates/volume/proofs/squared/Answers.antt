@@ -1,5 +1,4 @@
 -- `volume::squared` squares the difference of its bytes.
-use borrow.Author.Rules.{rules}
 use mathlib.Core.Path.{refl, ap, ◌∙◌}
 use Prim.Native.Nat.{◌^◌}
 use native.Mathlib.Nat.{pow-le-pow_left}

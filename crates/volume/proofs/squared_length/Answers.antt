@@ -1,5 +1,4 @@
 -- `volume::squared_length` is the sum of three squares.
-use borrow.Author.Rules.{rules}
 use Prim.Native.Nat.{◌+◌}
 use native.Mathlib.Omega.{arith}
 use Rattle.volume.specs.Volume.{squared_length}

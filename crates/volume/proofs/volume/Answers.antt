@@ -1,5 +1,4 @@
 -- `volume::volume` is D: the determinant of the differences of coordinates; the bound is that of bytes.
-use borrow.Author.Rules.{rules}
 use mathlib.Core.Path.{refl, ◌∙◌}
 use native.Mathlib.Omega.{arith}
 use Rattle.volume.proofs.VolumeComputed.{read, D_from}

@@ -1,5 +1,4 @@
 -- `PageRow::of` is `page_row`: the two sizes with their signs.
-use Rattle.std.proofs.Common.{rules}
 use Rattle.page.specs.Page.{page_row}
 use Rattle.page.proofs.PageRow.of.Goals as goal
 

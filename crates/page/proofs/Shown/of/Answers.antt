@@ -1,5 +1,5 @@
 -- `Shown::of` is `shown`, kind by kind; and near the quality, whose numbers fit 64 bits.
-use Rattle.std.proofs.Common.{◌≡◌, sym, ◌∙◌, rules}
+use Rattle.std.proofs.Common.{◌≡◌, sym, ◌∙◌}
 use Rattle.page.specs.declared.Shown.TheVariants.{Upright, Flat, Inverted}
 use Rattle.page.specs.Page.{shown}
 use Rattle.page.proofs.NearlyExact.{is_near}

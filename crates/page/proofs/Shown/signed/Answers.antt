@@ -1,6 +1,5 @@
 -- `Shown::signed` is `signed_size`, variant by variant; 0.0 is the float of the bits 0.
 use lib.Ieee.{of_bits}
-use Rattle.std.proofs.Common.{rules}
 use Rattle.page.proofs.Shown.signed.Goals as goal
 
 pub returns-in-Flat : goal.returns-in-Flat

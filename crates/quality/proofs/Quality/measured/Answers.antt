@@ -1,5 +1,4 @@
 -- `Quality::measured` is `quality_of`: the tests of D's sign pick the clause, and nothing overflows.
-use borrow.Author.Rules.{rules}
 use mathlib.Core.Path.{◌≡◌, sym, ap, ◌∙◌}
 use Prim.Native.Nat.{ℕ, ◌^◌}
 use lib.IntN.{ℤ, pos, nat_abs}

@@ -1,5 +1,4 @@
 -- `Quality::of` is the quality by D and S.
-use borrow.Author.Rules.{rules}
 use mathlib.Core.Path.{ap₂, ◌∙◌}
 use Rattle.quality.specs.Quality.{quality, quality_of}
 use Rattle.volume.proofs.VolumeComputed.{read}

@@ -1,6 +1,5 @@
 -- `Quality::worse_of` is `worse_of`: the test of the code is that of the definition.
 use mathlib.Core.Path.{sym, ◌∙◌}
-use borrow.Author.Rules.{rules}
 use Rattle.quality.proofs.Quality.worse_of.Goals as goal
 
 pub returns-then-worse : goal.returns-then-worse

@@ -1,5 +1,4 @@
 -- `with` goes by the cases of the definition.
-use borrow.Author.Rules.{rules}
 use borrow.Author.Tests.{eq-eqb, ne_eqb}
 use Rattle.rows.proofs.Regions.with.Goals as goal
 

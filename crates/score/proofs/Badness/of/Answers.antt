@@ -1,6 +1,5 @@
 -- `Badness::of` is `badness`, kind by kind.
 use mathlib.Core.Path.{sym, ◌∙◌}
-use borrow.Author.Rules.{rules}
 use Rattle.score.specs.Score.{badness}
 use Rattle.score.proofs.Badness.of.Goals as goal
 

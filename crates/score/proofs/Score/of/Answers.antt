@@ -2,7 +2,6 @@
 use Prim.Native.Nat.{min}
 use mathlib.Core.Path.{◌≡◌, sym, ◌∙◌}
 use native.Mathlib.Omega.{arith}
-use borrow.Author.Rules.{rules}
 use Rattle.score.specs.Score.{highest_score, score_of}
 use Rattle.score.proofs.ScoreLargest.{score_of_size, size_score_within}
 use Rattle.score.proofs.Score.of.Goals as goal

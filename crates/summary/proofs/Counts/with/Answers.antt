@@ -1,5 +1,4 @@
 -- `Counts::with` is `count_with`, kind by kind.
-use borrow.Author.Rules.{rules}
 use Rattle.summary.proofs.Counts.with.Goals as goal
 
 pub returns-in-Upright : goal.returns-in-Upright

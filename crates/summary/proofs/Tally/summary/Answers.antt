@@ -1,5 +1,4 @@
 -- `Tally::summary` is `tallied`: the two marks by their own functions.
-use borrow.Author.Rules.{rules}
 use Rattle.summary.proofs.Tally.summary.Goals as goal
 
 pub returns : goal.returns

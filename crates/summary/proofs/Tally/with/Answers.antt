@@ -1,5 +1,4 @@
 -- `Tally::with` is `tally_with`: each part by its own function.
-use borrow.Author.Rules.{rules}
 use Rattle.summary.proofs.Tally.with.Goals as goal
 
 pub returns : goal.returns

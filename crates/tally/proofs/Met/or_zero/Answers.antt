@@ -1,5 +1,4 @@
 -- `Met::or_zero` is `or_zero`, case by case.
-use borrow.Author.Rules.{rules}
 use Rattle.tally.proofs.Met.or_zero.Goals as goal
 
 pub returns-in-Nothing : goal.returns-in-Nothing

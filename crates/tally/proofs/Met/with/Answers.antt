@@ -1,5 +1,4 @@
 -- `Met::with` is `worst_with`, case by case.
-use borrow.Author.Rules.{rules}
 use Rattle.tally.proofs.Met.with.Goals as goal
 
 pub returns-in-Nothing : goal.returns-in-Nothing
