@@ -24,7 +24,7 @@ fn program() -> Command {
     let program = house().join("target/bin/vectors");
     let program = program
         .canonicalize()
-        .expect("target/bin/vectors, which rt check vectors builds");
+        .expect("target/bin/vectors, which compare/program vectors builds");
     if ARCH == "x86_64" {
         return Command::new(program);
     }

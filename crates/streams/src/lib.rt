@@ -1,9 +1,9 @@
-// What the programs read: bytes of a stream, until a buffer is full.
+// What the programs read and write: bytes of a stream, until a buffer is full; and all of some bytes.
 #![tactic(auto)]
 
 ghost use Rattle.std.specs.Prelude.{◌≤◌, length};
 
-use std::io::Read;
+use std::io::{Read, Write};
 
 // The bytes of one read, at the start of buf; 0 where the input ends or the read fails.
 fn some<R: Read>(reader: &mut R, buf: &mut [u8]) -> usize
@@ -28,4 +28,12 @@ pub fn read_full<R: Read>(reader: &mut R, buf: &mut [u8]) -> usize
         done += n;
     }
     done
+}
+
+// Writes all of the bytes, or stops at the first write that fails, and says which.
+pub fn write_all<W: Write>(writer: &mut W, bytes: &[u8]) -> bool {
+    match writer.write_all(bytes) {
+        Ok(()) => true,
+        Err(_) => false,
+    }
 }

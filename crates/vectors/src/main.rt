@@ -41,6 +41,8 @@ fn run_all<R: Read>(file: &mut R) -> Counts
 }
 
 fn main(rt: HostRuntime) -> io::Result<()> {
-    let mut file = File::open(&rt, "cases")?;
-    printing::print(&rt, run_all(&mut file))
+    match File::open(&rt, "cases") {
+        Ok(mut file) => printing::print(&rt, run_all(&mut file)),
+        Err(error) => eprintln!(rt; "cases: {error}"),
+    }
 }

@@ -1,5 +1,4 @@
 -- By the case of the answer.
-use borrow.Author.Rules.{rules}
 use Rattle.expected.proofs.answer_is.Goals as goal
 
 pub returns-in-Done : goal.returns-in-Done

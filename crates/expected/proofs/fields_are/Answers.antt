@@ -5,7 +5,6 @@ use mathlib.Core.Path.{◌∙◌}
 use borrow.Author.Tests.{eq-eqb, ne_eqb}
 use Rattle.expected.specs.Expected.{fields_are}
 use Rattle.expected.proofs.TestsInTurn.{fails, passes, failed, passed}
-use borrow.Author.Rules.{rules}
 use Rattle.expected.proofs.fields_are.Goals as goal
 
 pub returns-then-fields-stored : goal.returns-then-fields-stored

@@ -4,7 +4,6 @@ use mathlib.Core.Path.{◌≡◌}
 use native.Mathlib.Omega.{arith}
 use lib.ListN.{length}
 use Rattle.records.specs.Records.{output_at}
-use borrow.Author.Rules.{rules}
 use Rattle.expected.proofs.output_is.Goals as goal
 
 pub returns : goal.returns

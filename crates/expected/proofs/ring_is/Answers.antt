@@ -5,7 +5,6 @@ use borrow.Author.Tests.{eq-eqb, ne_eqb}
 use lib.Dec.{eqb}
 use Rattle.records.specs.Records.{length_in}
 use Rattle.expected.specs.Expected.{ring_is}
-use borrow.Author.Rules.{rules}
 use Rattle.expected.proofs.ring_is.Goals as goal
 
 pub returns-then-ring-stored : goal.returns-then-ring-stored

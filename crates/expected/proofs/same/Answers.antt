@@ -1,10 +1,8 @@
 -- The loop's invariant: what is left of the two slices decides.
-use Prim.Native.Nat.{◌-◌, ◌≤◌}
-use mathlib.Core.Path.{◌≡◌, refl, sym, ◌∙◌}
+use mathlib.Core.Path.{refl, sym, ◌∙◌}
 use native.Mathlib.Numerals.{add-one}
 use native.Mathlib.Omega.{arith}
-use lib.Dec.{eqb}
-use lib.ListN.{length, drop, drop_of_length-le}
+use lib.ListN.{drop_of_length-le}
 use Rattle.lists.specs.Lists.{same}
 use Rattle.expected.proofs.SameBytes.{other_length, differs_here, agrees_here}
 use Rattle.expected.proofs.same.Goals as goal

@@ -1,11 +1,8 @@
 use Prim.Native.Nat.{◌-◌, ◌≤◌}
-use mathlib.Core.Path.{◌≡◌, refl, sym, ◌∙◌}
-use native.Mathlib.Numerals.{add-one}
-use native.Mathlib.Omega.{arith}
+use mathlib.Core.Path.{◌≡◌}
 use lib.Dec.{eqb}
-use lib.ListN.{length, drop, drop_of_length-le}
+use lib.ListN.{length, drop}
 use Rattle.lists.specs.Lists.{same}
-use Rattle.expected.proofs.SameBytes.{other_length, differs_here, agrees_here}
 use Rattle.expected.proofs.same.Given as goal
 
 abbrev pub invariant-loop-i : goal.invariant-loop-i
