@@ -139,6 +139,7 @@ fn with_row(found: Sharing, row: Row, apex: u8) -> Sharing
 }
 
 // Those of the first n rows.
+#[inline(never)]
 pub fn share(table: &[u8], n: usize, x: u8, y: u8, z: u8) -> Sharing
     requires { (rows_at + row_size * n ≤ length table.now) × (n ≤ max_rows) }
     ensures { result ≡ sharing_in (rows_in table.now n) (x ∷ y ∷ z ∷ []) }

@@ -25,6 +25,7 @@ pub struct Pieces {
 }
 
 // The best worst and the apex of every piece of a ring, or of a chain.
+#[inline(never)]
 pub fn fill(
     coordinates: &[u8],
     count: usize,

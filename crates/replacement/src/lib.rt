@@ -20,6 +20,7 @@ pub struct Way {
 }
 
 // The best way to triangulate the ring or chain, by the table of its pieces.
+#[inline(never)]
 pub fn best_way(
     coordinates: &[u8],
     count: usize,

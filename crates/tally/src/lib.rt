@@ -87,6 +87,7 @@ pub fn worst_row(coordinates: &[u8], count: usize, table: &[u8], n: usize) -> Qu
 }
 
 // The worst quality of those of the first n rows that hold the edge a b; the zero quality where there are none.
+#[inline(never)]
 pub fn worst_round(
     coordinates: &[u8],
     count: usize,
