@@ -3,7 +3,6 @@ use mathlib.Core.Path.{◌∙◌}
 use borrow.Author.Tests.{eq-eqb, ne_eqb}
 use Rattle.agreement.specs.Agreement.{call_agrees}
 use Rattle.agreement.proofs.AnswersHeld.{chosen, skipped}
-use borrow.Author.Rules.{rules}
 use Rattle.agreement.proofs.call_agrees.Goals as goal
 
 pub returns-then-call-eq0 : goal.returns-then-call-eq0

@@ -2,7 +2,6 @@
 use mathlib.Core.Bool.{not}
 use mathlib.Core.Path.{ap, ◌∙◌}
 use native.Mathlib.Omega.{arith}
-use borrow.Author.Rules.{rules}
 use lib.ListN.{length, length-take}
 use Rattle.answers.specs.Answers.{answer_of}
 use Rattle.calls.specs.Flipping.{flip_answer, flip_bytes}

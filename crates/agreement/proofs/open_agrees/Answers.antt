@@ -5,7 +5,6 @@ use Rattle.block.specs.Opening.{open_answer, open_gives}
 use Rattle.expected.specs.Expected.{fields_are}
 use Rattle.agreement.specs.Agreement.{open_agrees}
 use Rattle.agreement.proofs.AnswersHeld.{other_answer, same_answer}
-use borrow.Author.Rules.{rules}
 use Rattle.agreement.proofs.open_agrees.Goals as goal
 
 pub returns-then-not-answer_is : goal.returns-then-not-answer_is

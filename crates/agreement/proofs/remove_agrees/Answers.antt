@@ -6,7 +6,6 @@ use Rattle.figures.specs.Figures.{removal_is}
 use Rattle.expected.specs.Expected.{ring_is, output_is}
 use Rattle.agreement.specs.Agreement.{remove_agrees}
 use Rattle.expected.proofs.TestsInTurn.{fails, passes, failed, passed, at_two}
-use borrow.Author.Rules.{rules}
 use Rattle.agreement.proofs.remove_agrees.Goals as goal
 
 pub returns-then-not-removal_is : goal.returns-then-not-removal_is

@@ -5,7 +5,6 @@ use Rattle.block.specs.Opening.{seal_answer}
 use Rattle.expected.specs.Expected.{output_is}
 use Rattle.agreement.specs.Agreement.{seal_agrees}
 use Rattle.agreement.proofs.AnswersHeld.{other_answer, same_answer}
-use borrow.Author.Rules.{rules}
 use Rattle.agreement.proofs.seal_agrees.Goals as goal
 
 pub returns-then-not-answer_is : goal.returns-then-not-answer_is

@@ -1,5 +1,4 @@
 -- The summary is the definition's.
-use borrow.Author.Rules.{rules}
 use Rattle.agreement.proofs.summary_agrees.Goals as goal
 
 pub returns : goal.returns

@@ -2,7 +2,6 @@
 use borrow.Author.Tests.{eq-eqb, ne_eqb}
 use Rattle.figures.specs.Figures.{octave_is}
 use Rattle.expected.proofs.TestsInTurn.{fails, passes}
-use borrow.Author.Rules.{rules}
 use Rattle.figures.proofs.octave_is.Goals as goal
 
 pub returns-then-there-ne1 : goal.returns-then-there-ne1

@@ -3,7 +3,6 @@ use mathlib.Core.Bool.{not}
 use mathlib.Core.Path.{ap, ◌∙◌}
 use Rattle.figures.specs.Figures.{has_bits, page_is}
 use Rattle.expected.proofs.TestsInTurn.{fails, passes, failed, passed}
-use borrow.Author.Rules.{rules}
 use Rattle.figures.proofs.page_is.Goals as goal
 
 pub returns-then-not-has_bits : goal.returns-then-not-has_bits

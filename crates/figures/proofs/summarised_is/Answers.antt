@@ -1,7 +1,6 @@
 -- By the case of the answer.
 use borrow.Author.Tests.{eq-eqb, ne_eqb}
 use Rattle.figures.specs.Figures.{summarised_is}
-use borrow.Author.Rules.{rules}
 use Rattle.figures.proofs.summarised_is.Goals as goal
 
 pub returns-then-stored-ne0 : goal.returns-then-stored-ne0

@@ -4,7 +4,6 @@ use mathlib.Core.Bool.{not}
 use mathlib.Core.Path.{◌∙◌}
 use Rattle.figures.specs.Figures.{worst_is, octave_is, summary_is}
 use Rattle.expected.proofs.TestsInTurn.{fails, passes, failed, passed, unlike, alike, at_two}
-use borrow.Author.Rules.{rules}
 use Rattle.figures.proofs.summary_is.Goals as goal
 
 pub returns-then-summary-figure : goal.returns-then-summary-figure

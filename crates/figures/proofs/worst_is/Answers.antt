@@ -4,7 +4,6 @@ use borrow.Author.Tests.{eq-eqb, ne_eqb}
 use lib.Dec.{eqb}
 use Rattle.figures.specs.Figures.{worst_is}
 use Rattle.expected.proofs.TestsInTurn.{fails, passes}
-use borrow.Author.Rules.{rules}
 use Rattle.figures.proofs.worst_is.Goals as goal
 
 pub returns-then-there-ne1 : goal.returns-then-there-ne1

@@ -1,6 +1,5 @@
 -- `print` hands on the block and the numbers, and leaves on a refusal; otherwise it reports.
 use Rattle.flip_printout.proofs.WaysOutOfFlipPrint.{numbers_lend, count_is, handed_tell, refusal, asks, reported}
-use borrow.Author.Rules.{rules}
 use Rattle.flip_printout.proofs.print.Goals as goal
 
 pub slice_bounds-all-end : goal.slice_bounds-all-end

@@ -3,7 +3,6 @@ use mathlib.Core.Bool.{not}
 use mathlib.Core.Path.{refl, ap}
 use native.Mathlib.Omega.{arith}
 use Rattle.printout.proofs.WaysOutOfPrint.{right_size, wrong_size, wrong_length, refusal, report_asks, reported}
-use borrow.Author.Rules.{rules}
 use Rattle.printout.proofs.print.Goals as goal
 
 pub returns-then-not-right_length : goal.returns-then-not-right_length

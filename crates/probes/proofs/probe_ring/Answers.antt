@@ -1,6 +1,5 @@
 -- `probes::probe_ring` is the length of the ring.
 use mathlib.Core.Path.{ap}
-use borrow.Author.Rules.{rules}
 use Rattle.ring.specs.declared.Ring.{Ring}
 use Rattle.probes.proofs.probe_ring.Goals as goal
 

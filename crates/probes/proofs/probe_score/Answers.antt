@@ -1,5 +1,4 @@
 -- `probes::probe_score` is the score of the upright quality: the casts keep it.
-use borrow.Author.Rules.{rules}
 use Rattle.probes.proofs.probe_score.Goals as goal
 
 pub returns : goal.returns
