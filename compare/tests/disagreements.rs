@@ -10,40 +10,18 @@ use compare::vectors::{
     RECORD_BYTES, RING_AT,
 };
 use std::collections::{BTreeMap, BTreeSet};
-use std::env::{consts::ARCH, var_os};
-use std::ffi::OsStr;
 use std::fs;
-use std::path::{Path, PathBuf};
 use std::process::{Command, Output};
 
 /// The answers of which a case is counted: 0 to 23.
 const ANSWERS: u8 = 24;
 
-/// The program. It is for x86-64; for other processors the toolchain has an emulator.
 fn program() -> Command {
     let program = house().join("target/bin/vectors");
     let program = program
         .canonicalize()
         .expect("target/bin/vectors, which compare/program vectors builds");
-    if ARCH == "x86_64" {
-        return Command::new(program);
-    }
-    let tools = kit().join("on").join(ARCH).join("toolchain");
-    let mut command = Command::new(tools.join("bin/qemu-x86_64"));
-    command.arg(tools.join("lib/ld-linux-x86-64.so.2"));
-    command.arg("--library-path").arg(tools.join("lib"));
-    command.arg(program);
-    command
-}
-
-/// The toolchain's folder: the one above that of its guide.
-fn kit() -> PathBuf {
-    if let Some(home) = var_os("RATTLE_HOME") {
-        return PathBuf::from(home);
-    }
-    let guide = printed("rt", &[OsStr::new("doc")]);
-    let mut above = Path::new(guide.trim_end()).ancestors();
-    above.nth(2).expect("two folders").to_path_buf()
+    Command::new(program)
 }
 
 /// What comes of the program in a folder of this name with this file of cases, or with none.

@@ -1,13 +1,15 @@
 // What the programs read and write: bytes of a stream, until a buffer is full; and all of some bytes.
 #![tactic(auto)]
 
-ghost use Rattle.std.specs.Prelude.{◌≤◌, length};
+ghost use Rattle.std.specs.Prelude.{◌≤◌, IsTrue, length, take};
+ghost use Rattle.std.specs.Io.KnownBytes.{Appends, Consumes};
 
 use std::io::{Read, Write};
 
-// The bytes of one read, at the start of buf; 0 where the input ends or the read fails.
+// The bytes of one read, at the start of buf, the next of the input; 0 where the input ends or the read fails.
 fn some<R: Read>(reader: &mut R, buf: &mut [u8]) -> usize
-    ensures { result ≤ length buf.new }
+    ensures in_bounds { result ≤ length buf.new }
+    ensures bytes { Consumes (R.remaining reader.old) (R.remaining reader.new) (take result buf.new) }
 {
     match reader.read(buf) {
         Ok(n) => n,
@@ -15,9 +17,10 @@ fn some<R: Read>(reader: &mut R, buf: &mut [u8]) -> usize
     }
 }
 
-// Reads until buf is full, the input ends or a read fails, and returns how many bytes it put at the start of buf.
+// Reads until buf is full, the input ends or a read fails, and returns how many bytes it put at the start of buf: the next of the input.
 pub fn read_full<R: Read>(reader: &mut R, buf: &mut [u8]) -> usize
-    ensures { result ≤ length buf.new }
+    ensures in_bounds { result ≤ length buf.new }
+    ensures bytes { Consumes (R.remaining reader.old) (R.remaining reader.new) (take result buf.new) }
 {
     let mut done = 0;
     while done < buf.len() {
@@ -31,7 +34,9 @@ pub fn read_full<R: Read>(reader: &mut R, buf: &mut [u8]) -> usize
 }
 
 // Writes all of the bytes, or stops at the first write that fails, and says which.
-pub fn write_all<W: Write>(writer: &mut W, bytes: &[u8]) -> bool {
+pub fn write_all<W: Write>(writer: &mut W, bytes: &[u8]) -> bool
+    ensures { IsTrue result → Appends (W.contents writer.old) (W.contents writer.new) bytes.now }
+{
     match writer.write_all(bytes) {
         Ok(()) => true,
         Err(_) => false,
