@@ -2,7 +2,7 @@
 #![tactic(auto)]
 
 ghost use Rattle.std.specs.Prelude.{◌≤◌, ◌≡◌, eqb, length};
-ghost use Rattle.lists.specs.Lists.{same as sameAs};
+ghost use Rattle.lists.specs.Lists.{same as same_as};
 ghost use Rattle.answers.specs.Answers.{number_of};
 ghost use Rattle.records.specs.Records.{record_bytes, part_bytes, answer_in};
 ghost use Rattle.expected.specs.Expected.{ring_is, fields_are, output_is};
@@ -15,7 +15,7 @@ use rows::ROWS_AT;
 
 // The same bytes in the same places.
 fn same(x: &[u8], y: &[u8]) -> bool
-    ensures { result ≡ sameAs eqb x.now y.now }
+    ensures { result ≡ same_as eqb x.now y.now }
 {
     if x.len() != y.len() {
         return false;

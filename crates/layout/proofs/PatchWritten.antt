@@ -17,7 +17,7 @@ use Rattle.rows.specs.declared.Row.{Row}
 use Rattle.rows.specs.Labels.{plain_version, marked_version, label_byte}
 use Rattle.rows.specs.Rows.{version, rows_at, row_size, stored_row, row_in, rows_in, labels, row_bytes, numbers}
 use Rattle.rows.proofs.LabelsReadBack.{written_byte}
-use Rattle.rows.proofs.RowsOfTables.{rows_length, row_at, among_rows, row_region, rows_room, rows_bytes as rows-bytes-of}
+use Rattle.rows.proofs.RowsOfTables.{rows_length, row_at, among_rows, row_region, rows_room, rows_bytes as rows_bytes_of}
 use Rattle.layout.specs.Layout.{Patch, body_bytes, block_bytes, is_version, max_points, max_rows, zeros_at, points_at}
 use Rattle.layout.specs.Layout.{byte, point_count, row_count, part, coordinates_of, table_of, fields_of, filled, body_of, sum_bytes, bytes_of}
 use Rattle.layout.specs.Within.{is_byte, row_fits, Within}
@@ -185,7 +185,7 @@ rows_fit block are =
     let n = row_count block in
     let below = byte_below block are in
     every_i (row_fits (version block)) (rows_in block n) (λ row m.
-    let b = rows-bytes-of block below n row m in
+    let b = rows_bytes_of block below n row m in
     let (i, h, e) = among_rows block n m in
     and_i (every is_byte (numbers row) && is_byte row.region) (roomy (version block) row)
     (and_i (every is_byte (numbers row)) (is_byte row.region)

@@ -159,12 +159,12 @@ module _ (site : Site) (law : Ruled site) where
 
     -- ---- the walk ends
 
-    module _ (Ends-there : circle links v ≡ none) where
+    module _ (ends_there : circle links v ≡ none) where
       at_head : Memᴰ v (heads links)
       at_head = heads_cases
           (λ e.
           let close = no_head_close links law.single law.single_end e in
-          absurd (none_not (sym Ends-there ∙ ap (circle links) (start.entered e) ∙ ring_circle links some_link close)))
+          absurd (none_not (sym ends_there ∙ ap (circle links) (start.entered e) ∙ ring_circle links some_link close)))
           (λ m. m)
 
       unclosed : site.closed ≡ false

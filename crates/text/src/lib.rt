@@ -2,7 +2,7 @@
 #![tactic(auto)]
 
 ghost use Rattle.std.specs.Prelude.{[], ◌∷◌, ◌≡◌, ◌<◌};
-ghost use Rattle.text.specs.Decimal.{digit as digitOf, decimal};
+ghost use Rattle.text.specs.Decimal.{digit as digit_of, decimal};
 ghost use Rattle.text.specs.Steps.{held, Behind};
 
 // A text holds at most so many bytes; the longest printout has fewer.
@@ -57,7 +57,7 @@ const ZERO: u8 = 48;
 // The digit of a number below ten.
 fn digit(n: u16) -> u8
     requires { n < 10 }
-    ensures { result ≡ digitOf n }
+    ensures { result ≡ digit_of n }
 {
     ZERO + n as u8
 }

@@ -14,7 +14,7 @@ whole : {filled : List ℕ} {byte : ℕ} → filled ≡ replicate part_bytes byt
 whole {filled} {byte} e = ap length e ∙ length-replicate part_bytes byte
 
 -- the parts that the code lends are the record's
-at-record :
+at_record :
     (s filled : List ℕ)
     (m n : ℕ)
     {r : Bool}
@@ -23,7 +23,7 @@ at-record :
     → n ≡ length_at s 4
     → filled ≡ replicate part_bytes (get_or s 6 0)
     → r ≡ case_agrees s
-at-record s filled m n h p q e =
+at_record s filled m n h p q e =
     let end : input_at + m - input_at ≡ m = omega arith in
     h
     ∙ ap (λ k. call_agrees s (part_in s input_at k) (take n filled)) (end ∙ p)
@@ -39,7 +39,7 @@ call_agrees-requires c = (search rules, simp length-take (omega (arith, whole c.
 
 pub returns : goal.returns
 returns c =
-    at-record
+    at_record
     c.args.stored.now
     c.filled-out.result
     c.length_at-input_end.result

@@ -20,17 +20,17 @@ module _ (block : List ℕ) (answer : Answer) where
   done : answer ≡ answer_of (open_answer block) → answer ≡ Done → open_answer block ≡ 0
   done e d = answer_done (open_answer block) (sym e ∙ d)
 
-  given-fields : (fields : Fields) → answer ≡ answer_of (open_answer block) → answer ≡ Done → fields ≡ open_fields block
+  given_fields : (fields : Fields) → answer ≡ answer_of (open_answer block) → answer ≡ Done → fields ≡ open_fields block
       → ◌≡◌ {A = Opened} (record { answer = answer; fields = fields }) (open_gives block)
-  given-fields fields e d f = rw (d, f, open_fields_lem block (done e d))
+  given_fields fields e d f = rw (d, f, open_fields_lem block (done e d))
 
-  given-none : (n : ℕ) (fields : Fields) → answer ≡ answer_of (open_answer block) → answer ≡ Refused n → fields ≡ no_fields
+  given_none : (n : ℕ) (fields : Fields) → answer ≡ answer_of (open_answer block) → answer ≡ Refused n → fields ≡ no_fields
       → ◌≡◌ {A = Opened} (record { answer = answer; fields = fields }) (open_gives block)
-  given-none n fields e d f = rw (open_none block (answer_refused (open_answer block) n (sym e ∙ d)), f, ← e)
+  given_none n fields e d f = rw (open_none block (answer_refused (open_answer block) n (sym e ∙ d)), f, ← e)
 
 pub returns-in_default : goal.returns-in_default
 returns-in_default c =
-    given-none c.args.block.now _ _ _ c.opening-answer.ensures
+    given_none c.args.block.now _ _ _ c.opening-answer.ensures
     c.in_default.is c.no_fields.ensures
 
 pub fields_of-requires : goal.fields_of-requires
@@ -41,5 +41,5 @@ fields_of-requires c =
 
 pub returns : goal.returns
 returns c =
-    given-fields c.args.block.now _ _ c.opening-answer.ensures
+    given_fields c.args.block.now _ _ c.opening-answer.ensures
     c.in-Done.is c.fields_of.ensures

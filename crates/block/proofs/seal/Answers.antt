@@ -21,8 +21,8 @@ module _ (body out : List ℕ) where
   abbrev Said : Answer → List ℕ → Type 0
   Said answer after = (answer ≡ answer_of (seal_answer body out)) × (after ≡ seal_bytes body out)
 
-  refused-1 : seal_answer body out ≡ 1 → Said (Refused 1) out
-  refused-1 e = (ap answer_of (sym e), sym (seal_keeps body out (λ z. omega arith)))
+  refused_1 : seal_answer body out ≡ 1 → Said (Refused 1) out
+  refused_1 e = (ap answer_of (sym e), sym (seal_keeps body out (λ z. omega arith)))
 
   refused : (answer : Answer) (n : ℕ) → length body ≡ body_bytes → length out ≡ block_bytes → answer ≡ answer_to body → answer ≡ Refused n
       → Said answer out
@@ -45,14 +45,14 @@ pub returns-then-body-ne-BODY_BYTES : goal.returns-then-body-ne-BODY_BYTES
 returns-then-body-ne-BODY_BYTES c =
     let a = c.args in
     let both =
-    refused-1 a.body.now a.out.now (seal_1_body a.body.now a.out.now c.if-body-ne-BODY_BYTES.true) in
+    refused_1 a.body.now a.out.now (seal_1_body a.body.now a.out.now c.if-body-ne-BODY_BYTES.true) in
     record { answer = both.0; bytes = both.1 }
 
 pub returns-then-out-ne-BLOCK_BYTES : goal.returns-then-out-ne-BLOCK_BYTES
 returns-then-out-ne-BLOCK_BYTES c =
     let a = c.args in
     let both =
-    refused-1 a.body.now a.out.now (seal_1_out a.body.now a.out.now c.if-body-ne-BODY_BYTES.false c.if-out-ne-BLOCK_BYTES.true) in
+    refused_1 a.body.now a.out.now (seal_1_out a.body.now a.out.now c.if-body-ne-BODY_BYTES.false c.if-out-ne-BLOCK_BYTES.true) in
     record { answer = both.0; bytes = both.1 }
 
 pub returns-in_default : goal.returns-in_default

@@ -8,34 +8,34 @@ use Rattle.body.proofs.BodyAnswers.{refused_3, refused_4_points, refused_4_rows,
 use Rattle.body.proofs.BodyAnswers.{refused_22, all_right}
 use Rattle.body.proofs.body_answer.Goals as goal
 
-told-no : {b : Bool} (r : Bool) → r ≡ b → not r ≡ true → b ≡ false
-told-no r e h = sym e ∙ not-true r h
+told_no : {b : Bool} (r : Bool) → r ≡ b → not r ≡ true → b ≡ false
+told_no r e h = sym e ∙ not-true r h
 
-told-yes : {b : Bool} (r : Bool) → r ≡ b → not r ≡ false → b ≡ true
-told-yes r e h = sym e ∙ not-false r h
+told_yes : {b : Bool} (r : Bool) → r ≡ b → not r ≡ false → b ≡ true
+told_yes r e h = sym e ∙ not-false r h
 
 pub returns-then-not-is_version : goal.returns-then-not-is_version
-returns-then-not-is_version c = refused_3 c.args.block.now (told-no c.is_version.result c.is_version.ensures (ap not c.if-not-is_version.true))
+returns-then-not-is_version c = refused_3 c.args.block.now (told_no c.is_version.result c.is_version.ensures (ap not c.if-not-is_version.true))
 
 pub overflow_cast-block : goal.overflow_cast-block
 overflow_cast-block c = omega (arith, c.type_inv.block 1)
 
 pub returns-then-block-gt-MAX_POINTS : goal.returns-then-block-gt-MAX_POINTS
 returns-then-block-gt-MAX_POINTS c =
-    refused_4_points c.args.block.now (told-yes c.is_version.result c.is_version.ensures (ap not c.if-not-is_version.false)) c.if-block-gt-MAX_POINTS.true
+    refused_4_points c.args.block.now (told_yes c.is_version.result c.is_version.ensures (ap not c.if-not-is_version.false)) c.if-block-gt-MAX_POINTS.true
 
 pub overflow_cast-block-2 : goal.overflow_cast-block-2
 overflow_cast-block-2 c = omega (arith, c.type_inv.block 2)
 
 pub returns-then-block-gt-MAX_ROWS : goal.returns-then-block-gt-MAX_ROWS
 returns-then-block-gt-MAX_ROWS c =
-    refused_4_rows c.args.block.now (told-yes c.is_version.result c.is_version.ensures (ap not c.if-not-is_version.false)) c.if-block-gt-MAX_POINTS.false c.if-block-gt-MAX_ROWS.true
+    refused_4_rows c.args.block.now (told_yes c.is_version.result c.is_version.ensures (ap not c.if-not-is_version.false)) c.if-block-gt-MAX_POINTS.false c.if-block-gt-MAX_ROWS.true
 
 pub returns-then-zero_missing : goal.returns-then-zero_missing
 returns-then-zero_missing c =
     refused_5
     c.args.block.now
-    (told-yes c.is_version.result c.is_version.ensures (ap not c.if-not-is_version.false))
+    (told_yes c.is_version.result c.is_version.ensures (ap not c.if-not-is_version.false))
     c.if-block-gt-MAX_POINTS.false
     c.if-block-gt-MAX_ROWS.false
     (sym c.zero_missing.ensures ∙ c.if-zero_missing.true)
@@ -44,7 +44,7 @@ pub returns-then-number_wrong : goal.returns-then-number_wrong
 returns-then-number_wrong c =
     refused_7
     c.args.block.now
-    (told-yes c.is_version.result c.is_version.ensures (ap not c.if-not-is_version.false))
+    (told_yes c.is_version.result c.is_version.ensures (ap not c.if-not-is_version.false))
     c.if-block-gt-MAX_POINTS.false
     c.if-block-gt-MAX_ROWS.false
     (sym c.zero_missing.ensures ∙ c.if-zero_missing.false)
@@ -54,7 +54,7 @@ pub returns-then-face_twice : goal.returns-then-face_twice
 returns-then-face_twice c =
     refused_8
     c.args.block.now
-    (told-yes c.is_version.result c.is_version.ensures (ap not c.if-not-is_version.false))
+    (told_yes c.is_version.result c.is_version.ensures (ap not c.if-not-is_version.false))
     c.if-block-gt-MAX_POINTS.false
     c.if-block-gt-MAX_ROWS.false
     (sym c.zero_missing.ensures ∙ c.if-zero_missing.false)
@@ -65,7 +65,7 @@ pub returns-then-marks_disagree : goal.returns-then-marks_disagree
 returns-then-marks_disagree c =
     refused_22
     c.args.block.now
-    (told-yes c.is_version.result c.is_version.ensures (ap not c.if-not-is_version.false))
+    (told_yes c.is_version.result c.is_version.ensures (ap not c.if-not-is_version.false))
     c.if-block-gt-MAX_POINTS.false
     c.if-block-gt-MAX_ROWS.false
     (sym c.zero_missing.ensures ∙ c.if-zero_missing.false)
@@ -77,7 +77,7 @@ pub returns : goal.returns
 returns c =
     all_right
     c.args.block.now
-    (told-yes c.is_version.result c.is_version.ensures (ap not c.if-not-is_version.false))
+    (told_yes c.is_version.result c.is_version.ensures (ap not c.if-not-is_version.false))
     c.if-block-gt-MAX_POINTS.false
     c.if-block-gt-MAX_ROWS.false
     (sym c.zero_missing.ensures ∙ c.if-zero_missing.false)

@@ -15,30 +15,30 @@ use Rattle.candidates.proofs.candidate.Goals as goal
 abbrev mark : Option Quality
 mark = none
 
-mark-either-way : (b : Bool) → mark ≡ cond b mark mark
-mark-either-way true = refl
-mark-either-way false = refl
+mark_either_way : (b : Bool) → mark ≡ cond b mark mark
+mark_either_way true = refl
+mark_either_way false = refl
 
-right-marked : (b : Bool) (beside : Option Quality) → mark ≡ cond b mark (elim beside [ none ↦ mark | some q ↦ beside_of Barred q ])
-right-marked b none = mark-either-way b
-right-marked b (some q) = mark-either-way b
+right_marked : (b : Bool) (beside : Option Quality) → mark ≡ cond b mark (elim beside [ none ↦ mark | some q ↦ beside_of Barred q ])
+right_marked b none = mark_either_way b
+right_marked b (some q) = mark_either_way b
 
 module _ (coordinates keys : List ℕ) (rows : Bipyramid) (left right : Side) where
-  left-barred : left ≡ Barred → mark ≡ candidate_over coordinates keys rows left right
+  left_barred : left ≡ Barred → mark ≡ candidate_over coordinates keys rows left right
   unfolding candidate_over
-  left-barred barred = rw barred (mark-either-way (used_by keys (rows.x, rows.y, rows.z)))
+  left_barred barred = rw barred (mark_either_way (used_by keys (rows.x, rows.y, rows.z)))
 
-  right-barred : right ≡ Barred → mark ≡ candidate_over coordinates keys rows left right
+  right_barred : right ≡ Barred → mark ≡ candidate_over coordinates keys rows left right
   unfolding candidate_over
-  right-barred barred =
+  right_barred barred =
       subst (λ (side : Side). mark ≡ candidate_over coordinates keys rows left side) (sym barred)
-      (right-marked (used_by keys (rows.x, rows.y, rows.z)) (beside_of left (worst_over coordinates rows)))
+      (right_marked (used_by keys (rows.x, rows.y, rows.z)) (beside_of left (worst_over coordinates rows)))
 
 pub returns-in-Barred : goal.returns-in-Barred
-returns-in-Barred c = left-barred _ _ _ _ _ c.in-Barred.is
+returns-in-Barred c = left_barred _ _ _ _ _ c.in-Barred.is
 
 pub returns-in-Barred-right : goal.returns-in-Barred-right
-returns-in-Barred-right c = right-barred _ _ _ _ _ c.in-Barred-right.is
+returns-in-Barred-right c = right_barred _ _ _ _ _ c.in-Barred-right.is
 
 pub returns-then-uses_either : goal.returns-then-uses_either
 unfolding candidate_over

@@ -16,9 +16,9 @@ use Rattle.marking.specs.Marking.{marks_over}
 use Rattle.marking.proofs.AgreeByKeys.{unmarked_none}
 use Rattle.dressing.proofs.mark_goes.Goals as goal
 
-unmarked-over : (numbers : List ℕ) (row : Row) → row.marks ≡ no_marks → marks_over numbers row ≡ false
+unmarked_over : (numbers : List ℕ) (row : Row) → row.marks ≡ no_marks → marks_over numbers row ≡ false
 unfolding marks_over
-unmarked-over numbers row e = no_is _ (unmarked_none row e (λ f. every (has (f.0 ∷ f.1 ∷ f.2 ∷ [])) numbers))
+unmarked_over numbers row e = no_is _ (unmarked_none row e (λ f. every (has (f.0 ∷ f.1 ∷ f.2 ∷ [])) numbers))
 
 pub returns-then-unmarked : goal.returns-then-unmarked
 returns-then-unmarked c =
@@ -28,7 +28,7 @@ returns-then-unmarked c =
     let none = c.unmarked.ensures c.if-unmarked.true in
     sym (no_is (any over (rows_in table a.n)) (not_any over (rows_in table a.n) (every_i _ (rows_in table a.n) λ row m.
     let (i, h, e) = among_rows table a.n m in
-    rw (unmarked-over (a.x ∷ a.y ∷ a.z ∷ []) row (rw e (none i))) tt)))
+    rw (unmarked_over (a.x ∷ a.y ∷ a.z ∷ []) row (rw e (none i))) tt)))
 
 pub loop-i-init : goal.loop-i-init
 unfolding any rows_in numbers_from

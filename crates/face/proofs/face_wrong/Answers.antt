@@ -14,55 +14,55 @@ last true = refl
 last false = refl
 
 module _ (count x y z : ℕ) where
-  over-x : count ≤ x → true ≡ numbers_wrong count (x ∷ y ∷ z ∷ [])
+  over_x : count ≤ x → true ≡ numbers_wrong count (x ∷ y ∷ z ∷ [])
   unfolding numbers_wrong every
-  over-x h = rw (le-ltb x count h)
+  over_x h = rw (le-ltb x count h)
 
-  over-y : x < count → count ≤ y → true ≡ numbers_wrong count (x ∷ y ∷ z ∷ [])
+  over_y : x < count → count ≤ y → true ≡ numbers_wrong count (x ∷ y ∷ z ∷ [])
   unfolding numbers_wrong every
-  over-y a h = rw (lt-ltb x count a, le-ltb y count h)
+  over_y a h = rw (lt-ltb x count a, le-ltb y count h)
 
-  over-z : x < count → y < count → count ≤ z → true ≡ numbers_wrong count (x ∷ y ∷ z ∷ [])
+  over_z : x < count → y < count → count ≤ z → true ≡ numbers_wrong count (x ∷ y ∷ z ∷ [])
   unfolding numbers_wrong every
-  over-z a b h = rw (lt-ltb x count a, lt-ltb y count b, le-ltb z count h)
+  over_z a b h = rw (lt-ltb x count a, lt-ltb y count b, le-ltb z count h)
 
   module _ (a : x < count) (b : y < count) (c : z < count) where
-    same-xy : x ≡ y → true ≡ numbers_wrong count (x ∷ y ∷ z ∷ [])
+    same_xy : x ≡ y → true ≡ numbers_wrong count (x ∷ y ∷ z ∷ [])
     unfolding numbers_wrong every different any
-    same-xy e = rw (lt-ltb x count a, lt-ltb y count b, lt-ltb z count c, eq-eqb x y e)
+    same_xy e = rw (lt-ltb x count a, lt-ltb y count b, lt-ltb z count c, eq-eqb x y e)
 
-    same-xz : (x ≡ y → ⊥) → x ≡ z → true ≡ numbers_wrong count (x ∷ y ∷ z ∷ [])
+    same_xz : (x ≡ y → ⊥) → x ≡ z → true ≡ numbers_wrong count (x ∷ y ∷ z ∷ [])
     unfolding numbers_wrong every different any
-    same-xz d e = rw (lt-ltb x count a, lt-ltb y count b, lt-ltb z count c, ne_eqb x y d, eq-eqb x z e)
+    same_xz d e = rw (lt-ltb x count a, lt-ltb y count b, lt-ltb z count c, ne_eqb x y d, eq-eqb x z e)
 
-    last-yz : (x ≡ y → ⊥) → (x ≡ z → ⊥) → eqb y z ≡ numbers_wrong count (x ∷ y ∷ z ∷ [])
+    last_yz : (x ≡ y → ⊥) → (x ≡ z → ⊥) → eqb y z ≡ numbers_wrong count (x ∷ y ∷ z ∷ [])
     unfolding numbers_wrong every different any
-    last-yz d e = rw (lt-ltb x count a, lt-ltb y count b, lt-ltb z count c, ne_eqb x y d, ne_eqb x z e) (last (eqb y z))
+    last_yz d e = rw (lt-ltb x count a, lt-ltb y count b, lt-ltb z count c, ne_eqb x y d, ne_eqb x z e) (last (eqb y z))
 
 pub returns-then-count-x : goal.returns-then-count-x
-returns-then-count-x c = let a = c.args in over-x a.count a.x a.y a.z c.if-count-x.true
+returns-then-count-x c = let a = c.args in over_x a.count a.x a.y a.z c.if-count-x.true
 
 pub returns-then-count-y : goal.returns-then-count-y
-returns-then-count-y c = let a = c.args in over-y a.count a.x a.y a.z c.if-count-x.false c.if-count-y.true
+returns-then-count-y c = let a = c.args in over_y a.count a.x a.y a.z c.if-count-x.false c.if-count-y.true
 
 pub returns-then-count-z : goal.returns-then-count-z
 returns-then-count-z c =
     let a = c.args in
-    over-z a.count a.x a.y a.z c.if-count-x.false c.if-count-y.false c.if-count-z.true
+    over_z a.count a.x a.y a.z c.if-count-x.false c.if-count-y.false c.if-count-z.true
 
 pub returns-then-x-y : goal.returns-then-x-y
 returns-then-x-y c =
     let a = c.args in
-    same-xy a.count a.x a.y a.z c.if-count-x.false c.if-count-y.false c.if-count-z.false c.if-x-y.true
+    same_xy a.count a.x a.y a.z c.if-count-x.false c.if-count-y.false c.if-count-z.false c.if-x-y.true
 
 pub returns-then-x-z : goal.returns-then-x-z
 returns-then-x-z c =
     let a = c.args in
-    same-xz a.count a.x a.y a.z c.if-count-x.false c.if-count-y.false c.if-count-z.false
+    same_xz a.count a.x a.y a.z c.if-count-x.false c.if-count-y.false c.if-count-z.false
     c.if-x-y.false c.if-x-z.true
 
 pub returns : goal.returns
 returns c =
     let a = c.args in
-    last-yz a.count a.x a.y a.z c.if-count-x.false c.if-count-y.false c.if-count-z.false
+    last_yz a.count a.x a.y a.z c.if-count-x.false c.if-count-y.false c.if-count-z.false
     c.if-x-y.false c.if-x-z.false

@@ -13,8 +13,8 @@ below : {x d : ℤ} → x ≡ d → lt_z x (pos 0) ≡ true → true ≡ not (sa
 below is e = let under = sym (ap (λ z. lt_z z (pos 0)) is) ∙ e in rw under
 
 -- and another is not 0 if it is over 0
-not-below : {x d : ℤ} → x ≡ d → lt_z x (pos 0) ≡ false → lt_z (pos 0) x ≡ not (same_z d (pos 0))
-not-below {x} {d} is e =
+not_below : {x d : ℤ} → x ≡ d → lt_z x (pos 0) ≡ false → lt_z (pos 0) x ≡ not (same_z d (pos 0))
+not_below {x} {d} is e =
     let under = sym (ap (λ z. lt_z z (pos 0)) is) ∙ e in
     ap (lt_z (pos 0)) is ∙ rw under (go (lt_z (pos 0) d))
   where
@@ -42,4 +42,4 @@ returns-then-d-lt0 c =
 pub returns : goal.returns
 returns c =
     rw (c.if-closed.false, ← c.plain-outer.ensures)
-    (not-below (read c.row_volume-d.type_inv c.row_volume-d.ensures) c.if-d-lt0.false)
+    (not_below (read c.row_volume-d.type_inv c.row_volume-d.ensures) c.if-d-lt0.false)

@@ -13,12 +13,12 @@ loop-i-init c =
     let b = c.place-2 in
     let met = c.args.met.now in
     let one = set met a.result true in
-    let a-fits : a.result < length met = omega arith in
-    let b-fits : b.result < length one = simp length-set (omega arith) in (
+    let a_fits : a.result < length met = omega arith in
+    let b_fits : b.result < length one = simp length-set (omega arith) in (
       omega arith,
       simp length-set c.requires.0,
-      still_met one b.result rim.a b-fits (just_met met rim.a a.result a.ensures.0 a-fits),
-      just_met one rim.b b.result b.ensures.0 b-fits,
+      still_met one b.result rim.a b_fits (just_met met rim.a a.result a.ensures.0 a_fits),
+      just_met one rim.b b.result b.ensures.0 b_fits,
       λ l h. absurd (omega arith),
     )
 

@@ -2,10 +2,6 @@
 use Rattle.lines.specs.Lines.{text, spaced, mark}
 use Rattle.lines.proofs.put_mark.Goals as goal
 
--- LEFT
--- slice-aggregate-put-word : tie.Need-slice-aggregate-put-word
--- slice-aggregate-put-word c = refl
-
 pub put_word-requires : goal.put_word-requires
 put_word-requires c = tt
 

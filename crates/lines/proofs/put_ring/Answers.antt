@@ -10,10 +10,6 @@ use Rattle.text.proofs.BytesBehindAText.{none_put, then_put}
 use Rattle.lines.proofs.FieldsOfALine.{fields_put, fields_more}
 use Rattle.lines.proofs.put_ring.Goals as goal
 
--- LEFT
--- slice-aggregate-put-word : tie.Need-slice-aggregate-put-word invariant-loop decreases-loop
--- slice-aggregate-put-word c = refl
-
 pub put_word-line-requires : goal.put_word-line-requires
 put_word-line-requires c = tt
 

@@ -4,10 +4,6 @@ use Rattle.text.proofs.BytesBehindAText.{then_put}
 use Rattle.lines.proofs.FieldsOfALine.{field_put, end_put}
 use Rattle.lines.proofs.put_row.Goals as goal
 
--- LEFT
--- slice-aggregate-put-word : tie.Need-slice-aggregate-put-word
--- slice-aggregate-put-word c = refl
-
 pub put_word-word-requires : goal.put_word-word-requires
 put_word-word-requires c = tt
 

@@ -36,19 +36,11 @@ no_text-requires c = tt
 pub put_answer-requires : goal.put_answer-requires
 put_answer-requires c = tt
 
--- LEFT
--- slice-aggregate-put-word : tie.Need-slice-aggregate-put-word
--- slice-aggregate-put-word c = refl
-
 pub put_word-requires : goal.put_word-requires
 put_word-requires c = tt
 
 pub put_summary-first-requires : goal.put_summary-first-requires
 put_summary-first-requires c = tt
-
--- LEFT
--- slice-aggregate-put-word-2 : tie.Need-slice-aggregate-put-word-2
--- slice-aggregate-put-word-2 c = refl
 
 pub put_word-requires-2 : goal.put_word-requires-2
 put_word-requires-2 c = tt

@@ -11,14 +11,14 @@ use Rattle.score.specs.Score.{highest_score, score_factor}
 use Rattle.volume.proofs.PointPolynomials.{cube_is}
 use Rattle.score.proofs.reaches.Goals as goal
 
-square-small : (n : ℕ) → n ≤ highest_score → n * n ≤ 1000000
-square-small n h = mul-le-mul h h
+square_small : (n : ℕ) → n ≤ highest_score → n * n ≤ 1000000
+square_small n h = mul-le-mul h h
 
-cube-small : (n : ℕ) → n ≤ highest_score → n * n * n ≤ score_factor
-cube-small n h = mul-le-mul (square-small n h) h
+cube_small : (n : ℕ) → n ≤ highest_score → n * n * n ≤ score_factor
+cube_small n h = mul-le-mul (square_small n h) h
 
-not-less : (a b : ℕ) → not (ltb a b) ≡ leb b a
-not-less a b = go (ltb a b) (ltb→lt a b) (nltb→le a b)
+not_less : (a b : ℕ) → not (ltb a b) ≡ leb b a
+not_less a b = go (ltb a b) (ltb→lt a b) (nltb→le a b)
   where
     go : (x : Bool) → (T x → a < b) → (T (not x) → b ≤ a) → not x ≡ leb b a
     go true f g = sym (lt-leb b a (f tt))
@@ -27,14 +27,14 @@ not-less a b = go (ltb a b) (ltb→lt a b) (nltb→le a b)
 told : (num den n : ℕ) {x : Bool} → x ≡ is_less num den (n * n * n) score_factor → not x ≡ leb (n ^ 3 * den) (score_factor * num)
 told num den n e =
     ap not e
-    ∙ not-less (num * score_factor) (n * n * n * den)
+    ∙ not_less (num * score_factor) (n * n * n * den)
     ∙ ap₂ leb (ap (λ (x : ℕ). x * den) (sym (cube_is n))) (mul_comm num score_factor)
 
 pub overflow_mul-root : goal.overflow_mul-root
-overflow_mul-root c = omega (arith, square-small c.args.n c.requires)
+overflow_mul-root c = omega (arith, square_small c.args.n c.requires)
 
 pub overflow_mul-root-2 : goal.overflow_mul-root-2
-overflow_mul-root-2 c = omega (arith, cube-small c.args.n c.requires)
+overflow_mul-root-2 c = omega (arith, cube_small c.args.n c.requires)
 
 pub returns : goal.returns
 returns c = let a = c.args in told a.num a.den a.n c.less.ensures

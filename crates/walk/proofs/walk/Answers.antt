@@ -26,10 +26,10 @@ inside : (links : List Link) (start n : ℕ) {v v' : List ℕ} {here here' m m' 
     → circle links start ≡ onto (take m v) (walk (n - m) links start here)
 inside links start n p q r e = rw (p, q, r) e
 
-inside-follow : (links : List Link) (start n : ℕ) {v v' : List ℕ} {here here' m m' : ℕ} → v ≡ v' → here ≡ here' → m ≡ m'
+inside_follow : (links : List Link) (start n : ℕ) {v v' : List ℕ} {here here' m m' : ℕ} → v ≡ v' → here ≡ here' → m ≡ m'
     → follow n links start ≡ take m' v' ++ follow (n - m') links here'
     → follow n links start ≡ take m v ++ follow (n - m) links here
-inside-follow links start n p q r e = rw (p, q, r) e
+inside_follow links start n p q r e = rw (p, q, r) e
 
 pub walk-init : goal.walk-init
 walk-init c =
@@ -81,7 +81,7 @@ walk-preserved c =
     inv.4 ∙ next_here (in_drop links c.loop-i.i c.loop-i-test.true) c.if-here-links.true
     ∙ ap some (sym (ap (λ (l : Link). l.1) kept)) in
     let so_far = inside (links_in links) start links.n inv.0 inv.1 inv.2 out.3 in
-    let followed = inside-follow (links_in links) start links.n inv.0 inv.1 inv.2 out.4 in (
+    let followed = inside_follow (links_in links) start links.n inv.0 inv.1 inv.2 out.4 in (
       omega arith,
       refl,
       simp length-set (rw inv.0 out.2),
