@@ -5,6 +5,7 @@ use mathlib.Core.Option.{some}
 use mathlib.Core.Path.{◌≡◌}
 use native.Mathlib.Omega.{arith}
 use lib.ListN.{length}
+use Rattle.std.specs.Prelude.{Ok}
 use Rattle.lists.proofs.Lists.{those_split}
 use Rattle.quality.specs.Quality.{worst}
 use Rattle.page.specs.Page.{shown, page_row}
@@ -18,8 +19,6 @@ use Rattle.summary.specs.Summary.{summary_of}
 use Rattle.ring.specs.Ring.{Site, site_of, ring_with}
 use Rattle.triangulation.specs.Best.{chosen}
 use Rattle.triangulation.proofs.WholeRing.{after_length}
-use Rattle.calls.specs.declared.Summarised.TheVariants.{Summary as Summed}
-use Rattle.calls.specs.declared.Removal.TheVariants.{Done}
 use Rattle.calls.specs.Summarising.{summary_gives}
 use Rattle.calls.specs.Removing.{worst_now, rows_made, patch_after, remove_answer, remove_bytes, remove_gives, Sound}
 use Rattle.calls.proofs.CallTests.{removes}
@@ -33,7 +32,7 @@ use Rattle.accepted.proofs.AcceptedCalls.{remove_accepted}
 -- ---- the summary
 
 -- a block that opens has its patch's summary
-pub summary_opened : (block : List ℕ) → open_answer block ≡ 0 → summary_gives block ≡ Summed (summary_of (fields_of block))
+pub summary_opened : (block : List ℕ) → open_answer block ≡ 0 → summary_gives block ≡ Ok (summary_of (fields_of block))
 unfolding summary_gives
 summary_opened block e = rw (e, summary_gives)
 
@@ -71,10 +70,7 @@ module _ (block out : List ℕ) (e f : ℕ) (done : remove_answer block out e f 
   -- so the page row's second size is that of the worst row of the written block
   pub page_given : let before = worst_of_patch (fields_of block) in
       let after = worst_of_patch (fields_of (remove_bytes block out e f)) in
-      remove_gives block out e f ≡ record {
-        removal = Done (page_row (shown before) (shown after));
-        ring = ring_with its.ring;
-      }
+      remove_gives block out e f ≡ Ok (record { page = page_row (shown before) (shown after); ring = ring_with its.ring })
   page_given = rw fields_after (gives_done block out e f done)
 
   pub opens_after : open_answer (remove_bytes block out e f) ≡ 0

@@ -1,7 +1,6 @@
 -- Requirement §9: numbered answers, tested from the top, and what a refusal leaves.
-use Rattle.std.specs.Prelude.{ℕ, zero, suc, Bool, cond, List, [], ◌∷◌, eqb}
-use Rattle.answers.specs.declared.Answer.{Answer}
-use Rattle.answers.specs.declared.Answer.TheVariants.{Done, Refused}
+use Rattle.std.specs.Prelude.{ℕ, zero, suc, Bool, cond, List, [], ◌∷◌, eqb, Result, Ok, Err}
+use Rattle.answers.specs.declared.Refusal.{Refusal}
 
 -- Answer numbers, each with the test for which it is given.
 abbrev pub Tests : Type 0
@@ -14,15 +13,19 @@ first_refusal (test ∷ tests) = let rest = first_refusal tests in cond test.1 t
 
 -- ---- the answer as a type
 
--- the answer with a number: 0 is done
-abbrev pub answer_of : ℕ → Answer
-answer_of zero = Done
-answer_of (suc n) = Refused (suc n)
+-- what a call gives whose answer has a number: x with 0, and otherwise a refusal
+abbrev pub gives : {T : Type 0} → ℕ → T → Result T Refusal
+gives zero x = Ok x
+gives (suc n) x = Err (record { number = suc n })
+
+-- the same of a call that gives nothing else
+abbrev pub answer_of : ℕ → Result (Unit {0}) Refusal
+answer_of n = gives n tt
 
 -- the number of each case
-abbrev pub number_of : Answer → ℕ
-number_of Done = 0
-number_of (Refused n) = n
+abbrev pub number_of : {T : Type 0} → Result T Refusal → ℕ
+number_of (Ok x) = 0
+number_of (Err refusal) = refusal.number
 
 -- with answer 0 the bytes are written; a refusal returns its number and nothing else, output bytes stay as they came
 abbrev pub written : ℕ → List ℕ → List ℕ → List ℕ

@@ -1,5 +1,6 @@
 -- What only contracts of inner functions and proofs say: a removal in a block that opens, before anything is carried out.
-use Rattle.std.specs.Prelude.{ℕ, List, ◌++◌, ◌≡◌}
+use Rattle.std.specs.Prelude.{ℕ, List, ◌++◌, ◌≡◌, Result, Ok, Err}
+use Rattle.answers.specs.declared.Refusal.{Refusal}
 use Rattle.layout.specs.Layout.{fields_of}
 use Rattle.answers.specs.Answers.{first_refusal, answer_of}
 use Rattle.ring.specs.Ring.{site_of, or_chains, edge_tests}
@@ -13,7 +14,7 @@ attempt_answer block e f =
     let site = site_of (fields_of block) e f in
     first_refusal (edge_tests or_chains site e f ++ removal_tests site)
 
--- The answer and, with answer 0, what the replacement asks for.
-pub record Attempts (block : List ℕ) (e f : ℕ) (tried : Tried) : Type 0 where
-  pub answer : tried.answer ≡ answer_of (attempt_answer block e f)
-  pub done : attempt_answer block e f ≡ 0 → Replaceable block e f tried.closed tried.ring tried.region tried.apexes
+-- with answer 0 what the replacement asks for, or the refusal
+abbrev pub Attempts : List ℕ → ℕ → ℕ → Result Tried Refusal → Type 0
+Attempts block e f (Ok tried) = (attempt_answer block e f ≡ 0) × Replaceable block e f tried.closed tried.ring tried.region tried.apexes
+Attempts block e f (Err refusal) = answer_of (attempt_answer block e f) ≡ Err refusal

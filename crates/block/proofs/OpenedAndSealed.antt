@@ -5,10 +5,9 @@ use mathlib.Core.Path.{◌≡◌}
 use borrow.Author.Tests.{ne_eqb}
 use lib.Dec.{T}
 use Rattle.lists.specs.Lists.{has}
-use Rattle.answers.specs.declared.Answer.TheVariants.{Done}
-use Rattle.answers.specs.Answers.{answer_of}
+use Rattle.std.specs.Prelude.{Ok}
 use Rattle.answers.proofs.Refusals.{on_list}
-use Rattle.layout.specs.Layout.{sealed, open_fields, no_fields}
+use Rattle.layout.specs.Layout.{sealed, open_fields}
 use Rattle.body.specs.Body.{body_tests}
 use Rattle.block.specs.Opening.{open_answer, open_gives, seal_answer, seal_bytes}
 
@@ -22,16 +21,10 @@ pub seal_list : (body out : List ℕ) → T (has (0 ∷ 1 ∷ 3 ∷ 4 ∷ 5 ∷ 
 unfolding seal_answer body_tests
 seal_list body out = on_list _
 
--- beside answer 0 opening gives the fields of the block
-pub open_fields_lem : (block : List ℕ) → open_answer block ≡ 0 → open_gives block ≡ record { answer = Done; fields = open_fields block }
+-- with answer 0 opening gives the fields of the block
+pub open_fields_lem : (block : List ℕ) → open_answer block ≡ 0 → open_gives block ≡ Ok (open_fields block)
 unfolding open_gives
 open_fields_lem block e = rw e
-
--- beside a refusal it gives none
-pub open_none : (block : List ℕ) → (open_answer block ≡ 0 → ⊥)
-    → open_gives block ≡ record { answer = answer_of (open_answer block); fields = no_fields }
-unfolding open_gives
-open_none block h = rw (ne_eqb (open_answer block) 0 h)
 
 -- answer 0 of sealing writes the body with its sums
 pub seal_writes : (body out : List ℕ) → seal_answer body out ≡ 0 → seal_bytes body out ≡ sealed body

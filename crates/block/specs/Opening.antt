@@ -1,10 +1,11 @@
 -- Requirement §9: opening and sealing, answers 1 to 8 and 22 (those from 3 on are the body's).
-use Rattle.std.specs.Prelude.{ℕ, Bool, cond, not, ◌||◌, List, ◌∷◌, eqb, length}
-use Rattle.answers.specs.Answers.{first_refusal, answer_of, written}
+use Rattle.std.specs.Prelude.{ℕ, Bool, not, ◌||◌, List, ◌∷◌, eqb, length, Result}
+use Rattle.answers.specs.Answers.{first_refusal, gives, written}
+use Rattle.answers.specs.declared.Refusal.{Refusal}
+use Rattle.layout.specs.declared.Fields.{Fields}
 use Rattle.layout.specs.Layout.{block_bytes, body_bytes}
-use Rattle.layout.specs.Layout.{sealed, sum_wrong, open_fields, no_fields}
+use Rattle.layout.specs.Layout.{sealed, sum_wrong, open_fields}
 use Rattle.body.specs.Body.{body_tests}
-use Rattle.block.specs.declared.Opened.{Opened}
 
 -- 1: a block, or the output block, is not 512 bytes
 abbrev pub not_block : List ℕ → Bool
@@ -21,10 +22,8 @@ unfoldable pub open_answer : List ℕ → ℕ
 open_answer block = first_refusal ((1, not_block block) ∷ (2, sum_wrong block) ∷ body_tests block)
 
 -- what opening gives: the fields beside answer 0
-unfoldable pub open_gives : List ℕ → Opened
-open_gives block =
-    let answer = open_answer block in
-    record { answer = answer_of answer; fields = cond (eqb answer 0) (open_fields block) no_fields }
+unfoldable pub open_gives : List ℕ → Result Fields Refusal
+open_gives block = gives (open_answer block) (open_fields block)
 
 -- ---- sealing
 

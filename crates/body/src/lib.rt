@@ -7,7 +7,7 @@ ghost use Rattle.answers.specs.Answers.{first_refusal, answer_of};
 ghost use Rattle.layout.specs.Layout.{body_bytes, max_points, max_rows, point_count, row_count, fields_of};
 ghost use Rattle.body.specs.Body.{zero_missing, number_wrong, face_twice, marks_disagree, body_tests};
 
-use answers::Answer;
+use answers::Refusal;
 use layout::{BODY_BYTES, MAX_POINTS, MAX_ROWS, POINTS_AT, ZEROS_AT};
 use rows::{ROW_SIZE, ROWS_AT, VERSION_AT};
 use volume::POINT_SIZE;
@@ -16,12 +16,7 @@ use volume::POINT_SIZE;
 fn not_zero(part: &[u8]) -> bool
     ensures { result ≡ any (λ x. not (eqb x 0)) part.now }
 {
-    for i in 0..part.len() {
-        if part[i] != 0 {
-            return true;
-        }
-    }
-    false
+    part.iter().any(|x| *x != 0)
 }
 
 // A byte that must be zero is not: the bytes before the points, and those of points and rows beyond the counts.
@@ -72,30 +67,30 @@ fn marks_disagree(block: &[u8]) -> bool
 }
 
 // Answers 3 to 8 and 22, which opening and sealing share.
-pub fn body_answer(block: &[u8]) -> Answer
+pub fn body_answer(block: &[u8]) -> Result<(), Refusal>
     requires { body_bytes ≤ length block.now }
     ensures { result ≡ answer_of (first_refusal (body_tests block.now)) }
 {
     if !layout::is_version(block[VERSION_AT]) {
-        return Answer::Refused(answers::NOT_A_VERSION);
+        return Err(Refusal::NOT_A_VERSION);
     }
     if MAX_POINTS < block[1] as usize {
-        return Answer::Refused(answers::COUNT);
+        return Err(Refusal::COUNT);
     }
     if MAX_ROWS < block[2] as usize {
-        return Answer::Refused(answers::COUNT);
+        return Err(Refusal::COUNT);
     }
     if zero_missing(block) {
-        return Answer::Refused(answers::NOT_ZERO);
+        return Err(Refusal::NOT_ZERO);
     }
     if number_wrong(block) {
-        return Answer::Refused(answers::ROW);
+        return Err(Refusal::ROW);
     }
     if face_twice(block) {
-        return Answer::Refused(answers::FACE_TWICE);
+        return Err(Refusal::FACE_TWICE);
     }
     if marks_disagree(block) {
-        return Answer::Refused(answers::MARKS_DISAGREE);
+        return Err(Refusal::MARKS_DISAGREE);
     }
-    Answer::Done
+    Ok(())
 }

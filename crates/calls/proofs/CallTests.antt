@@ -7,25 +7,24 @@ use native.Mathlib.Omega.{arith}
 use borrow.Author.Tests.{eqb-true, eqb-false, eq-eqb, ltb-false, not-false}
 use lib.Dec.{T, eqb}
 use lib.ListN.{length}
+use Rattle.std.specs.Prelude.{Result, Ok, Err}
 use Rattle.lists.specs.Lists.{every}
 use Rattle.lists.proofs.Tests.{is_yes, neither_is, or_true, or_false}
 use Rattle.rows.specs.Regions.{mixed}
 use Rattle.mesh.specs.Mesh.{keeps_mesh_rule}
-use Rattle.answers.specs.declared.Answer.{Answer}
-use Rattle.answers.specs.declared.Answer.TheVariants.{Done, Refused}
+use Rattle.answers.specs.declared.Refusal.{Refusal}
 use Rattle.marking.specs.Marking.{mark_goes}
 use Rattle.layout.specs.Layout.{Patch, block_bytes, max_rows, fields_of}
-use Rattle.answers.specs.Answers.{Tests, first_refusal, answer_of}
+use Rattle.answers.specs.Answers.{Tests, first_refusal, gives, answer_of}
 use Rattle.block.specs.Opening.{not_block, open_answer}
 use Rattle.body.specs.Body.{body_tests}
-use Rattle.answers.proofs.Refusals.{goes_on, refuses}
+use Rattle.answers.proofs.Refusals.{goes_on, refuses, given_done, passed_on}
 use Rattle.answers.proofs.ByNumber.{unlike, test_of, passes, both_passed, front_passed}
 use Rattle.ring.specs.Ring.{Site, site_of, m, min_ring, numbers_wrong, rings_alone, or_chains, link_open, length_wrong, not_flat, edge_tests}
 use Rattle.ring.proofs.EdgeGoesRound.{closed_passed}
 use Rattle.calls.specs.Removing.{block_tests, no_room, no_way, none_better, remove_answer, Sound, mark_lost}
 use Rattle.calls.specs.Removing.{removal_tests}
 use Rattle.calls.specs.Flipping.{flip32_tests, pair_of, patch_after23, flip23_tests, flip_tests, flip_answer}
-use Rattle.calls.proofs.HandedOn.{Number, number_handed, handed_done}
 
 -- ---- the block and the edge
 
@@ -87,19 +86,16 @@ front_refuses ((n, b) ∷ xs) ys h = go b h (front_refuses xs ys)
     go false h f = f h
 
 -- both, as an answer tells them
-module _ (block out : List ℕ) (answer : Answer) (is : answer ≡ answer_of (first_refusal (block_tests block out))) where
-  pub opened : answer ≡ Done → (open_answer block ≡ 0) × (length out ≡ block_bytes)
-  opened done = block_passed block out (handed_done (first_refusal (block_tests block out)) answer is done)
+module _ (block out : List ℕ) where
+  abbrev blocks : Result (Unit {0}) Refusal
+  blocks = answer_of (first_refusal (block_tests block out))
 
-  pub blocked : (n : ℕ) → answer ≡ Refused n → (rest : Tests) → Number (first_refusal (block_tests block out ++ rest)) n
-  blocked n refused rest =
-      let k = number_handed (first_refusal (block_tests block out)) n (sym is ∙ refused) in
-      let some-test : first_refusal (block_tests block out) ≡ 0 → ⊥ = λ z. omega (arith, k.answer) in
-      record {
-        less = k.less;
-        answer = front_refuses (block_tests block out) rest some-test ∙ k.answer;
-        handed = k.handed;
-      }
+  pub opened : {done : Unit {0}} → blocks ≡ Ok done → (open_answer block ≡ 0) × (length out ≡ block_bytes)
+  opened {done} e = block_passed block out (given_done (first_refusal (block_tests block out)) tt done e)
+
+  pub blocked : {refusal : Refusal} → blocks ≡ Err refusal → (rest : Tests) → {A : Type 0} (x : A)
+      → Err refusal ≡ gives (first_refusal (block_tests block out ++ rest)) x
+  blocked e rest x = passed_on (first_refusal (block_tests block out)) _ tt x e (front_refuses (block_tests block out) rest)
 
 -- where the links close, every call has the same tests of the edge
 pub closed_tests : (chains : Bool) (site : Site) (e f : ℕ) → site.closed ≡ true → edge_tests chains site e f ≡ edge_tests or_chains site e f

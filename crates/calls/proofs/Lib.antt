@@ -1,4 +1,3 @@
-pub mod HandedOn
 pub mod CallTests
 pub mod FlipTold
 pub mod NumbersRead

@@ -1,10 +1,11 @@
 -- Requirement §9 of a removal: from all inputs to its answer, every byte of the output,
 -- page row and ring.
-use Rattle.std.specs.Prelude.{ℕ, zero, suc, ◌-◌, Bool, not, ◌||◌, List, [], ◌∷◌, ◌++◌, map, ◌≡◌, ltb}
+use Rattle.std.specs.Prelude.{ℕ, ◌-◌, Bool, not, ◌||◌, List, [], ◌∷◌, ◌++◌, map, ◌≡◌, ltb, Result}
 use Rattle.std.proofs.Math.Option.{get_or}
 use Rattle.lists.specs.Lists.{every, any}
 use Rattle.quality.specs.declared.Quality.{Quality}
 use Rattle.quality.specs.Quality.{worst, worse, zero_quality}
+use Rattle.page.specs.declared.PageRow.{PageRow}
 use Rattle.page.specs.Page.{shown, page_row}
 use Rattle.rows.specs.declared.Row.{Row}
 use Rattle.rows.specs.Rows.{version}
@@ -12,7 +13,8 @@ use Rattle.rows.specs.RowMeasure.{row_quality}
 use Rattle.rows.specs.Regions.{mixed}
 use Rattle.marking.specs.Marking.{mark_goes, dressed}
 use Rattle.layout.specs.Layout.{Patch, max_rows, fields_of, bytes_of}
-use Rattle.answers.specs.Answers.{Tests, first_refusal, written}
+use Rattle.answers.specs.declared.Refusal.{Refusal}
+use Rattle.answers.specs.Answers.{Tests, first_refusal, gives, written}
 use Rattle.block.specs.Opening.{not_block, open_answer}
 use Rattle.layout.specs.Layout.{sum_wrong}
 use Rattle.body.specs.Body.{body_tests}
@@ -21,8 +23,6 @@ use Rattle.triangulation.specs.Triangulation.{ways, new_rows, rows_after}
 use Rattle.triangulation.specs.Admissible.{admissible}
 use Rattle.triangulation.specs.Best.{worst_of_way, ring_ways, chosen}
 use Rattle.tally.specs.Tally.{worst_of_patch}
-use Rattle.calls.specs.declared.Removal.{Removal}
-use Rattle.calls.specs.declared.Removal.TheVariants.{Done, Refused}
 use Rattle.calls.specs.declared.Removed.{Removed}
 
 -- ---- what each answer is given for
@@ -85,21 +85,20 @@ remove_answer block out e f =
 unfoldable pub remove_bytes : List ℕ → List ℕ → ℕ → ℕ → List ℕ
 remove_bytes block out e f = written (remove_answer block out e f) (bytes_of (version block) (patch_after (site_of (fields_of block) e f))) out
 
--- there is a page row only with answer 0 of a removal; the ring, or the chain, stands beside it
-unfoldable pub remove_gives : List ℕ → List ℕ → ℕ → ℕ → Removed
-remove_gives block out e f =
-    let patch = fields_of block in
-    let site = site_of patch e f in
-    let page = page_row (shown (worst_of_patch patch)) (shown (worst_of_patch (patch_after site))) in
-    elim (remove_answer block out e f) [
-      | zero ↦ record { removal = Done page; ring = ring_with site.ring }
-      | suc n ↦ record { removal = Refused (suc n); ring = ring_with [] }
-    ]
+-- the page row: the worst row before and afterwards
+abbrev pub page_afterwards : List ℕ → ℕ → ℕ → PageRow
+page_afterwards block e f =
+    page_row (shown (worst_of_patch (fields_of block))) (shown (worst_of_patch (patch_after (site_of (fields_of block) e f))))
 
--- the number of each case
-abbrev pub removal_number : Removal → ℕ
-removal_number (Done page) = 0
-removal_number (Refused n) = n
+-- there is a page row, and the ring or chain beside it, only with answer 0 of a removal
+unfoldable pub remove_gives : List ℕ → List ℕ → ℕ → ℕ → Result Removed Refusal
+remove_gives block out e f =
+    let site = site_of (fields_of block) e f in
+    gives (remove_answer block out e f) (record { page = page_afterwards block e f; ring = ring_with site.ring })
+
+-- the page row alone
+unfoldable pub page_gives : List ℕ → List ℕ → ℕ → ℕ → Result PageRow Refusal
+page_gives block out e f = gives (remove_answer block out e f) (page_afterwards block e f)
 
 -- ---- a premise of most laws
 

@@ -9,7 +9,8 @@ use Rattle.kept_faces.specs.declared.Rim.{Rim}
 use Rattle.candidates.specs.declared.Side.{Side}
 use Rattle.candidates.specs.declared.Side.TheVariants.{Neighbours, Diagonal, Barred}
 use Rattle.kept_faces.specs.Steps.{used_by}
-use Rattle.cells.specs.Steps.{cell_at, cells, best_in}
+use Rattle.cells.specs.declared.Table.{Table}
+use Rattle.cells.specs.Steps.{cell_at, best_in}
 
 -- ---- the sides of a triangle
 
@@ -19,20 +20,11 @@ beside_of Neighbours q = some q
 beside_of (Diagonal r) q = some (worse_of q r)
 beside_of Barred q = none
 
--- ---- the arrays of the table
-
--- The arrays are whole.
-pub record Arrays (kinds nums dens : List ℕ) (used : List Bool) : Type 0 where
-  pub all_kinds : length kinds ≡ cells
-  pub all_nums : length nums ≡ cells
-  pub all_dens : length dens ≡ cells
-  pub all_used : length used ≡ cells
-
 -- the side (i,j) of a triangle
-unfoldable pub read_side : List ℕ → List ℕ → List ℕ → List Bool → ℕ → ℕ → Side
-read_side kinds nums dens used i j =
+unfoldable pub read_side : Table → List Bool → ℕ → ℕ → Side
+read_side table used i j =
     let at = cell_at i j in
-    let kept : Side = elim (best_in kinds nums dens i j) [ none ↦ Barred | some q ↦ Diagonal q ] in
+    let kept : Side = elim (best_in table i j) [ none ↦ Barred | some q ↦ Diagonal q ] in
     cond (leb (j - i) 1) Neighbours (cond (get_or used at false) Barred kept)
 
 -- ---- the two rows of a triangle

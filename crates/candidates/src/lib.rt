@@ -1,15 +1,14 @@
 // One triangle over a piece: its rows, its sides and the worst it makes, from what the table keeps for the smaller pieces inside it.
 #![tactic(auto)]
 
-ghost use Rattle.std.specs.Prelude.{◌≡◌, ◌<◌, ◌≤◌, length, take};
-ghost use Rattle.keys.specs.Steps.{most_keys};
+ghost use Rattle.std.specs.Prelude.{◌≡◌, ◌<◌, ◌≤◌};
 ghost use Rattle.ring.specs.Ring.{max_ring};
-ghost use Rattle.candidates.specs.Steps.{Arrays, Reaching, beside_of, candidate_over, read_side, two_over, worst_over};
-ghost use Rattle.cells.specs.Steps.{best_of};
+ghost use Rattle.candidates.specs.Steps.{Reaching, beside_of, candidate_over, read_side, two_over, worst_over};
+ghost use Rattle.cells.specs.Steps.{option_of};
 
-use cells::{Best, CELLS, best_at, cell_at};
+use cells::{CELLS, Table, cell_at};
 use kept_faces::{Rim, uses_either};
-use keys::MOST_KEYS;
+use keys::Keys;
 use quality::Quality;
 
 // The two rows of a triangle x, y, z: (a,x,y,z) and (x,y,z,b).
@@ -31,17 +30,9 @@ pub enum Side {
 }
 
 // The side (i,j) of a triangle.
-pub fn side_at<'a>(
-    kinds: &'a [u8; CELLS],
-    nums: &'a [u64; CELLS],
-    dens: &'a [u64; CELLS],
-    used: &'a [bool; CELLS],
-    i: usize,
-    j: usize,
-) -> Side
-    requires arrays { Arrays kinds.now nums.now dens.now used.now }
-    requires le_i { (1 ≤ i) × (i < j) × (j ≤ max_ring) }
-    ensures { result ≡ read_side kinds.now nums.now dens.now used.now i j }
+pub fn side_at(table: &Table, used: &[bool; CELLS], i: usize, j: usize) -> Side
+    requires { (1 ≤ i) × (i < j) × (j ≤ max_ring) }
+    ensures { result ≡ read_side table.now used.now i j }
 {
     if j <= i + 1 {
         return Side::Neighbours;
@@ -50,10 +41,9 @@ pub fn side_at<'a>(
     if used[at] {
         return Side::Barred;
     }
-    let best = best_at(kinds, nums, dens, at);
-    match best {
-        Best::Mark => Side::Barred,
-        Best::Worst(q) => Side::Diagonal(q),
+    match table.best_at(at) {
+        None => Side::Barred,
+        Some(q) => Side::Diagonal(q),
     }
 }
 
@@ -84,41 +74,38 @@ fn worst_of_two(coordinates: &[u8], rows: Bipyramid) -> Quality
     Quality::of(a, x, y, z).worse_of(Quality::of(x, y, z, b))
 }
 
-// The worst of a triangle's rows and of what stands at one of its sides; the mark, if the side cannot be taken.
-fn beside(side: Side, worst: Quality) -> Best
-    ensures { best_of result ≡ beside_of side worst }
+// The worst of a triangle's rows and of what stands at one of its sides; none, if the side cannot be taken.
+fn beside(side: Side, worst: Quality) -> Option<Quality>
+    ensures { option_of result ≡ beside_of side worst }
 {
     match side {
-        Side::Neighbours => Best::Worst(worst),
-        Side::Diagonal(kept) => Best::Worst(worst.worse_of(kept)),
-        Side::Barred => Best::Mark,
+        Side::Neighbours => Some(worst),
+        Side::Diagonal(kept) => Some(worst.worse_of(kept)),
+        Side::Barred => None,
     }
 }
 
-// The best worst of a piece with this triangle, or the mark, if no admissible triangulation has it. A side that cannot be
+// The best worst of a piece with this triangle; none, if no admissible triangulation has it. A side that cannot be
 // taken is looked at before anything is measured.
 pub fn candidate(
     coordinates: &[u8],
-    keys: &[u32; MOST_KEYS],
-    n: usize,
+    keys: &Keys,
     rows: Bipyramid,
     left: Side,
     right: Side,
-) -> Best
-    requires { (length keys.now ≡ most_keys) × (n ≤ most_keys) × Reaching coordinates.now rows }
-    ensures { best_of result ≡ candidate_over coordinates.now (take n keys.now) rows left right }
+) -> Option<Quality>
+    requires { Reaching coordinates.now rows }
+    ensures { option_of result ≡ candidate_over coordinates.now keys.now rows left right }
 {
     if let Side::Barred = left {
-        return Best::Mark;
+        return None;
     }
     if let Side::Barred = right {
-        return Best::Mark;
+        return None;
     }
-    if uses_either(keys, n, rows.x, rows.y, rows.z) {
-        return Best::Mark;
+    if uses_either(keys, rows.x, rows.y, rows.z) {
+        return None;
     }
-    let Best::Worst(q) = beside(left, worst_of_two(coordinates, rows)) else {
-        return Best::Mark;
-    };
+    let q = beside(left, worst_of_two(coordinates, rows))?;
     beside(right, q)
 }

@@ -80,21 +80,15 @@ cell_apart i j l e s h t k q = go (dec_lt j e) (dec_lt e j)
 
 -- ---- one place more
 
--- the pieces up to the place of the whole are the ring's
-pub cell_inside : (i j m : ℕ) → 1 ≤ i → i + 2 ≤ j → 3 ≤ m → cell_at i j ≤ cell_at 1 m → j ≤ m
-cell_inside i j m s h k c = go (dec_lt m j)
-  where
-    go : Dec (m < j) → j ≤ m
-    go (yes b) = absurd (omega (arith, cell_order 1 m i j (omega arith) k h (omega arith) (λ same. omega arith)))
-    go (no b) = omega arith
-
--- behind (i,j) stands (i - 1,j),
-pub cell_next : (i j : ℕ) → 1 < i → i + 2 ≤ j → cell_at (i - 1) j ≡ cell_at i j + 1
+-- behind (i,j) stands (i - 1,j), and behind (1,j) what stands first of those that end at j + 1: the place of "(0,j)" is that one's
+pub cell_next : (i j : ℕ) → 1 ≤ i → i + 2 ≤ j → cell_at (i - 1) j ≡ cell_at i j + 1
 cell_next i j s h = omega (arith, counted i j h, counted (i - 1) j (omega arith))
 
--- and behind (1,j) the shortest that ends at j + 1
-pub cell_turn : (j : ℕ) → 3 ≤ j → cell_at (j - 1) (j + 1) ≡ cell_at 1 j + 1
+-- the first that ends at j stands behind all that end before
+pub cell_turn : (j : ℕ) → 3 ≤ j → cell_at (j - 1 - 1) j ≡ cell_at 0 (j - 1)
 cell_turn zero h = absurd (omega arith)
-cell_turn (suc j) h =
-    let up : suc j + 1 ≡ suc (suc j) = omega arith in
-    omega (arith, counted (suc j - 1) (suc j + 1) (omega arith), counted 1 (suc j) h, ap ended_by up, one_more j)
+cell_turn (suc zero) h = absurd (omega arith)
+cell_turn (suc (suc j)) h =
+    let back : suc (suc j) - 1 ≡ suc j = omega arith in
+    let twice : suc (suc j) - 1 - 1 ≡ j = omega arith in
+    rw (twice, back) (omega (arith, counted j (suc (suc j)) (omega arith), counted 0 (suc j) (omega arith), one_more j))

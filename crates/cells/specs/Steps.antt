@@ -1,28 +1,20 @@
 -- What only contracts of inner functions and proofs say: where the table keeps a piece, and what its cells stand for.
-use Rattle.std.specs.Prelude.{ℕ, zero, suc, ◌-◌, ◌*◌, ◌/◌, List, get_or}
+use Rattle.std.specs.Prelude.{ℕ, zero, suc, ◌-◌, ◌*◌, ◌/◌, List, ◌≡◌, length, get_or, set, Option as Optional, None, Some}
 use Rattle.std.proofs.Math.Option.{Option, none, some}
 use Rattle.quality.specs.declared.Kind.TheVariants.{Upright, Flat, Inverted}
 use Rattle.quality.specs.declared.Quality.{Quality}
 use Rattle.quality.specs.Steps.{from_parts}
 use Rattle.ring.specs.Ring.{max_ring}
-use Rattle.cells.specs.declared.Best.{Best}
-use Rattle.cells.specs.declared.Best.TheVariants.{Mark, Worst}
-use Rattle.cells.specs.declared.Choice.{Choice}
-use Rattle.cells.specs.declared.Choice.TheVariants.{Nothing, Apex}
 use Rattle.quality.specs.declared.Kind.{Kind}
 use Rattle.cells.specs.declared.Cell.{Cell}
+use Rattle.cells.specs.declared.Table.{Table}
 
--- ---- enums as what they stand for
+-- ---- an Option of the code
 
--- a best worst or the mark
-abbrev pub best_of : Best → Option Quality
-best_of Mark = none
-best_of (Worst q) = some q
-
--- the apex to take with its best worst, if there is one
-abbrev pub choice_of : Choice → Option (ℕ × Quality)
-choice_of Nothing = none
-choice_of (Apex k q) = some (k, q)
+-- the same, as the definitions have it
+abbrev pub option_of : {A : Type 0} → Optional A → Option A
+option_of None = none
+option_of (Some x) = some x
 
 -- ---- the arrays of the table
 
@@ -41,9 +33,20 @@ read_best (suc zero) num den = some (from_parts Inverted num den)
 read_best (suc (suc zero)) num den = some (from_parts Flat num den)
 read_best (suc (suc (suc n))) num den = some (from_parts Upright num den)
 
--- the best worst that the arrays keep for piece (i,j), or the mark
-abbrev pub best_in : List ℕ → List ℕ → List ℕ → ℕ → ℕ → Option Quality
-best_in kinds nums dens i j = let at = cell_at i j in read_best (get_or kinds at 0) (get_or nums at 0) (get_or dens at 0)
+-- The arrays are whole.
+pub record Whole (table : Table) : Type 0 where
+  pub all_nums : length table.nums ≡ cells
+  pub all_dens : length table.dens ≡ cells
+  pub all_kinds : length table.kinds ≡ cells
+  pub all_apexes : length table.apexes ≡ cells
+
+-- the best worst that the table keeps at a place, or the mark
+abbrev pub best_of : Table → ℕ → Option Quality
+best_of table at = read_best (get_or table.kinds at 0) (get_or table.nums at 0) (get_or table.dens at 0)
+
+-- the best worst that the table keeps for piece (i,j), or the mark
+abbrev pub best_in : Table → ℕ → ℕ → Option Quality
+best_in table i j = best_of table (cell_at i j)
 
 -- what a cell keeps as an apex, or the mark
 unfoldable pub coded_apex : ℕ → Option ℕ
@@ -63,6 +66,17 @@ kind_code Flat = 2
 kind_code Upright = 3
 
 -- a choice as a cell keeps it
-abbrev pub cell_of : Choice → Cell
-cell_of Nothing = record { kind = 0; num = 0; den = 0; apex = 0 }
-cell_of (Apex k q) = record { kind = kind_code q.kind; num = q.num; den = q.den; apex = k }
+abbrev pub cell_of : Optional (ℕ × Quality) → Cell
+cell_of None = record { kind = 0; num = 0; den = 0; apex = 0 }
+cell_of (Some (k, q)) = record { kind = kind_code q.kind; num = q.num; den = q.den; apex = k }
+
+-- the table with a choice at a place
+abbrev pub stored : Table → ℕ → Optional (ℕ × Quality) → Table
+stored table at choice =
+    let cell = cell_of choice in
+    record {
+      nums = set table.nums at cell.num;
+      dens = set table.dens at cell.den;
+      kinds = set table.kinds at cell.kind;
+      apexes = set table.apexes at cell.apex;
+    }

@@ -18,6 +18,7 @@ use Rattle.triangulation.specs.Steps.{triangle_worst, beside, candidate, keep, l
 use Rattle.kept_faces.specs.Steps.{used_by, OnRim, end_a, end_b, ring_point, SiteRim}
 use Rattle.candidates.specs.Steps.{beside_of, worst_over, candidate_over, read_side, two_over}
 use Rattle.choice.specs.Steps.{KnownIn, Smaller}
+use Rattle.cells.specs.declared.Table.{Table}
 use Rattle.cells.specs.Steps.{best_in}
 use Rattle.choice.proofs.SideKnown.{side_is}
 
@@ -76,33 +77,33 @@ module _ {site : Site} {coordinates : List ℕ} {rim : Rim} {keys : List ℕ} (g
   used_is : used_by keys (rows.x, rows.y, rows.z) ≡ kept_uses site (triangle_face site (i, k, j))
   used_is = rw (x_is, y_is, z_is) (given.uses on_x on_y on_z)
 
-  pub candidate_is : (kinds nums dens : List ℕ) (used : List Bool) → Smaller site kinds nums dens used i j
-      → candidate_over coordinates keys rows (read_side kinds nums dens used i k) (read_side kinds nums dens used k j)
-      ≡ candidate site (best_in kinds nums dens) i k j
+  pub candidate_is : (table : Table) (used : List Bool) → Smaller site table used i j
+      → candidate_over coordinates keys rows (read_side table used i k) (read_side table used k j)
+      ≡ candidate site (best_in table) i k j
   unfolding candidate_over candidate
-  candidate_is kinds nums dens used smaller =
+  candidate_is table used smaller =
       ap₂ (λ u s. cond u none s) used_is
-      (ap over (ap (beside_of left) worst_is_lem ∙ side_is kinds nums dens used i k site (triangle_worst site i k j) left_known)
+      (ap over (ap (beside_of left) worst_is_lem ∙ side_is table used i k site (triangle_worst site i k j) left_known)
       ∙ sides (beside site kept i k (triangle_worst site i k j)))
     where
       left : Side
-      left = read_side kinds nums dens used i k
+      left = read_side table used i k
 
       right : Side
-      right = read_side kinds nums dens used k j
+      right = read_side table used k j
 
       kept : ℕ → ℕ → Option Quality
-      kept = best_in kinds nums dens
+      kept = best_in table
 
       over : Option Quality → Option Quality
       over o = elim o [ none ↦ none | some q ↦ beside_of right q ]
 
-      left_known : i + 2 ≤ k → KnownIn site kinds nums dens used i k
+      left_known : i + 2 ≤ k → KnownIn site table used i k
       left_known h = smaller i k (omega arith) (omega arith) h (omega arith)
 
-      right_known : k + 2 ≤ j → KnownIn site kinds nums dens used k j
+      right_known : k + 2 ≤ j → KnownIn site table used k j
       right_known h = smaller k j (omega arith) (omega arith) h (omega arith)
 
       sides : (o : Option Quality) → over o ≡ elim o [ none ↦ none | some q ↦ beside site kept k j q ]
       sides none = refl
-      sides (some q) = side_is kinds nums dens used k j site q right_known
+      sides (some q) = side_is table used k j site q right_known

@@ -14,19 +14,20 @@ use Rattle.quality.specs.Quality.{worse_of}
 use Rattle.ring.specs.Ring.{Site}
 use Rattle.candidates.specs.declared.Side.TheVariants.{Neighbours, Barred}
 use Rattle.triangulation.specs.Admissible.{kept_uses, diagonal_faces}
+use Rattle.cells.specs.declared.Table.{Table}
 use Rattle.cells.specs.Steps.{cell_at, best_in}
 use Rattle.candidates.specs.Steps.{read_side, beside_of}
 use Rattle.choice.specs.Steps.{KnownIn}
 use Rattle.triangulation.specs.Steps.{beside}
 use Rattle.candidates.proofs.SideRead.{side_of}
 
-module _ (kinds nums dens : List ℕ) (used : List Bool) (i j : ℕ) where
+module _ (table : Table) (used : List Bool) (i j : ℕ) where
   abbrev read : Option Quality
-  read = best_in kinds nums dens i j
+  read = best_in table i j
 
   -- what stands beside a side, by what is read
-  pub side_is : (site : Site) (q : Quality) → (i + 2 ≤ j → KnownIn site kinds nums dens used i j)
-      → beside_of (read_side kinds nums dens used i j) q ≡ beside site (best_in kinds nums dens) i j q
+  pub side_is : (site : Site) (q : Quality) → (i + 2 ≤ j → KnownIn site table used i j)
+      → beside_of (read_side table used i j) q ≡ beside site (best_in table) i j q
   unfolding read_side beside
   side_is site q known = go (leb (j - i) 1) refl
     where

@@ -11,7 +11,8 @@ const CORNER_BYTES: usize = 12;
 
 const PARTS: usize = 3;
 
-// A kind as a number.
+// A kind as a number, for C.
+// Kept: `From<Kind>` for u64 can stand in crate `quality` alone, and nothing but this probe wants the number.
 fn kind_number(kind: Kind) -> u64
     ensures { result ≡ kind_number kind }
 {
@@ -49,11 +50,7 @@ fn put(quality: Quality, out: &mut [u64])
 pub fn put_quality(corners: &[u8], out: &mut [u64])
     ensures { out.new ≡ measured corners.now out.old }
 {
-    if corners.len() != CORNER_BYTES {
-        return;
+    if corners.len() == CORNER_BYTES && out.len() == PARTS {
+        put(quality_in(corners), out);
     }
-    if out.len() != PARTS {
-        return;
-    }
-    put(quality_in(corners), out);
 }

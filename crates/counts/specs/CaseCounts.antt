@@ -1,8 +1,10 @@
 -- The table of counts: a cell for each call and answer.
-use Rattle.std.specs.Prelude.{ℕ, ◌+◌, ◌*◌, ◌/◌, ◌%◌, ◌^◌, Bool, cond, List, replicate, nat_le, slice_index, slice_set}
+use Rattle.std.specs.Prelude.{ℕ, ◌+◌, ◌*◌, ◌%◌, ◌^◌, Bool, cond, replicate, nat_le, get_or, map, slice_set}
 use Rattle.lists.specs.Lists.{sum}
+use Rattle.records.specs.declared.Call.{Call}
+use Rattle.records.specs.StoredCalls.{number_of}
+use Rattle.counts.specs.declared.Cases.{Cases}
 use Rattle.counts.specs.declared.Counts.{Counts}
-use Rattle.counts.specs.declared.Cell.{Cell}
 
 -- the calls, and the answers 0 to 23
 abbrev pub calls : ℕ
@@ -11,27 +13,35 @@ calls = 5
 abbrev pub answers : ℕ
 answers = 24
 
+-- no case of one call and answer
+abbrev pub no_case : Cases
+no_case = record { all = 0; agreeing = 0 }
+
 -- no case of any call and answer
 abbrev pub no_cases : Counts
-no_cases = record { cases = replicate (calls * answers) 0; agreeing = replicate (calls * answers) 0 }
+no_cases = record { cells = replicate (calls * answers) no_case }
 
--- the cells with one more in one place
-abbrev pub with_one : List ℕ → ℕ → List ℕ
-with_one cells at = slice_set cells at ((slice_index cells at + 1) % 2 ^ 64)
+-- one case more, which agrees or does not
+abbrev pub with_one : Cases → Bool → Cases
+with_one cases agrees = record {
+  all = (cases.all + 1) % 2 ^ 64;
+  agreeing = cond agrees ((cases.agreeing + 1) % 2 ^ 64) cases.agreeing;
+}
 
 -- what is counted of one call and answer
-abbrev pub cell_at : Counts → ℕ → Cell
-cell_at counts at =
-    record { call = at / answers; answer = at % answers; cases = slice_index counts.cases at; agreeing = slice_index counts.agreeing at }
+abbrev pub cases_of : Counts → Call → ℕ → Cases
+cases_of counts call answer = get_or counts.cells (number_of call * answers + answer) no_case
 
 -- all cells together, in 64 bits
-abbrev pub total_of : List ℕ → ℕ
-total_of cells = sum cells % 2 ^ 64
+abbrev pub total_of : Counts → Cases
+total_of counts = record {
+  all = sum (map (λ cases. cases.all) counts.cells) % 2 ^ 64;
+  agreeing = sum (map (λ cases. cases.agreeing) counts.cells) % 2 ^ 64;
+}
 
 -- one case more, and one that agrees if it does; a record of no call or no answer is none
 unfoldable pub counted : Counts → ℕ → ℕ → Bool → Counts
 counted counts call answer agrees =
     let at = call * answers + answer in
-    let agreeing = cond agrees (with_one counts.agreeing at) counts.agreeing in
-    let next : Counts = record { cases = with_one counts.cases at; agreeing = agreeing } in
+    let next : Counts = record { cells = slice_set counts.cells at (with_one (get_or counts.cells at no_case) agrees) } in
     cond (nat_le calls call) counts (cond (nat_le answers answer) counts next)

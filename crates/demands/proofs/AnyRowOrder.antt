@@ -8,6 +8,7 @@ use borrow.Author.Tests.{eqb-true, eqb-false, eq-eqb}
 use lib.Dec.{eqb, ltb}
 use lib.ListN.{length}
 use lib.Seq.{take-append_seam, drop-append_seam}
+use Rattle.std.specs.Prelude.{Ok}
 use Rattle.lists.specs.Lists.{every, any, those, different}
 use Rattle.rows.specs.declared.Row.{Row}
 use Rattle.rows.specs.Rows.{holds_edge, holds_face}
@@ -19,9 +20,7 @@ use Rattle.answers.proofs.Refusals.{refuses, number_of_lem}
 use Rattle.block.proofs.RightBlocks.{opens}
 use Rattle.answers.proofs.ByNumber.{same_behind}
 use Rattle.ring.specs.Ring.{site_of, numbers_wrong, rings_alone, or_chains, edge_tests, ring_with}
-use Rattle.ring.specs.declared.Ring.{Ring}
 use Rattle.calls.specs.Removing.{block_tests, remove_answer, remove_bytes, remove_gives, Sound}
-use Rattle.calls.specs.declared.Removed.{Removed}
 use Rattle.calls.specs.Flipping.{pair_of, flip_tests, flip_answer, flip_bytes}
 use Rattle.calls.proofs.CallTests.{block_opened, taken, removes, each_count, miscounted, never_done, flips_32, flips_23}
 use Rattle.calls.proofs.SoundEdges.{sound_site, ends_fit}
@@ -31,7 +30,7 @@ use Rattle.tables.proofs.RemovalInAnyOrder as Removal
 use Rattle.tables.proofs.FlipInAnyOrder as Flip
 use Rattle.accepted.proofs.CallsNumbered.{gives_done, gives_refused, remove_number}
 use Rattle.accepted.proofs.AcceptedCalls.{remove_accepted, flip32_accepted, flip23_accepted, ends_held}
-use Rattle.demands.specs.Orders.{SameMesh, SameOutput, AnyRowOrder}
+use Rattle.demands.specs.Orders.{SameMesh, SameOutput, ring_given, AnyRowOrder}
 use Rattle.demands.specs.Kernels.{ours}
 
 -- the tables of two blocks with the same mesh
@@ -125,20 +124,17 @@ module _ (block other out : List ℕ) (e f : ℕ) (same : SameMesh block other) 
       Removal.flip_same (fields_of block) (fields_of other) e f (tables same) apart (sound_site block e f sound)
       (sound_site other e f its-sound))
 
-  -- a refusal returns no ring
-  ring_given_same : (remove_gives block out e f).ring ≡ (remove_gives other out e f).ring
+  -- a refusal is the same and returns no ring
+  ring_given_same : ring_given (remove_gives block out e f) ≡ ring_given (remove_gives other out e f)
   ring_given_same = go (remove_answer block out e f) refl
     where
-      ring_in : Removed → Ring
-      ring_in given = given.ring
-
-      go : (n : ℕ) → remove_answer block out e f ≡ n → (remove_gives block out e f).ring ≡ (remove_gives other out e f).ring
+      go : (n : ℕ) → remove_answer block out e f ≡ n → ring_given (remove_gives block out e f) ≡ ring_given (remove_gives other out e f)
       go zero h =
-          ap ring_in (gives_done block out e f h)
-          ∙ ap ring_with (Removal.ring_same (fields_of block) (fields_of other) e f (tables same) (ends_fit block e f (removes block out e f h).sound).2)
-          ∙ sym (ap ring_in (gives_done other out e f (sym remove_answer_same ∙ h)))
+          ap ring_given (gives_done block out e f h)
+          ∙ ap (λ points. Ok (ring_with points)) (Removal.ring_same (fields_of block) (fields_of other) e f (tables same) (ends_fit block e f (removes block out e f h).sound).2)
+          ∙ sym (ap ring_given (gives_done other out e f (sym remove_answer_same ∙ h)))
       go (suc n) h =
-          ap ring_in (gives_refused block out e f n h) ∙ sym (ap ring_in (gives_refused other out e f n (sym remove_answer_same ∙ h)))
+          ap ring_given (gives_refused block out e f n h) ∙ sym (ap ring_given (gives_refused other out e f n (sym remove_answer_same ∙ h)))
 
   remove_output_same : remove_answer block out e f ≡ 0
       → SameOutput (holds_edge (min e f) (max e f)) block other (remove_bytes block out e f) (remove_bytes other out e f)
@@ -206,5 +202,5 @@ any_row_order = record {
   remove_output = λ block other out e f same done.
       remove_output_same block other out e f same (sym (remove_number block out e f) ∙ done);
   flip_answer_fact = λ block other out numbers same. ap answer_of (flip_answer_same block other out same numbers);
-  flip_output = λ block other out numbers same done. flip_output_same block other out same numbers (sym (number_of_lem _) ∙ done);
+  flip_output = λ block other out numbers same done. flip_output_same block other out same numbers (sym (number_of_lem _ tt) ∙ done);
 }

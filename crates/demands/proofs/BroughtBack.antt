@@ -127,7 +127,7 @@ module _ (block out other : List ℕ) (x y z a b : ℕ) (given : Flipped ours bl
 
   was_done : flip_answer block out (x ∷ y ∷ z ∷ []) ≡ 0
   unfolding ours
-  was_done = sym (number_of_lem _) ∙ given.done
+  was_done = sym (number_of_lem _ tt) ∙ given.done
 
   apexes : TwoApexes (fields_of block) (x ∷ y ∷ z ∷ []) a b
   apexes = two_apexes (fields_of block) x y z a b (opens_rule block (flips_23 block out x y z was_done).opens) given.apexes
@@ -155,4 +155,4 @@ module _ (block out other : List ℕ) (x y z a b : ℕ) (given : Flipped ours bl
 pub brought_back : BroughtBack ours
 unfolding ours
 brought_back block out other x y z a b given =
-    (number_of_lem _ ∙ given_answer block out other x y z a b given, given_rows block out other x y z a b given)
+    (number_of_lem _ tt ∙ given_answer block out other x y z a b given, given_rows block out other x y z a b given)

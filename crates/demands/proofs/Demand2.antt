@@ -8,6 +8,7 @@ use borrow.Author.Tests.{eqb-true, eq-eqb, not-false}
 use lib.Ieee.{Float}
 use lib.ListN.{length, get_or, drop, get_or-append}
 use lib.Seq.{get_or-take}
+use Rattle.std.specs.Prelude.{Result, Ok}
 use Rattle.lists.specs.Lists.{every, numbers_from}
 use Rattle.lists.proofs.Tests.{neither_is}
 use Rattle.lists.proofs.Images.{map_same}
@@ -15,9 +16,9 @@ use Rattle.lists.proofs.Numbers.{numbers_e}
 use Rattle.rows.specs.Rows.{version, rows_at, row_size, stored_row, row_in, rows_in, holds_edge, holds_face}
 use Rattle.rows.proofs.RegionsOfRows.{one_region}
 use Rattle.marking.specs.Marking.{dressed}
-use Rattle.layout.specs.Layout.{block_bytes, body_bytes, max_rows, row_count, table_of, fields_of, body_of, sum_bytes}
-use Rattle.answers.specs.declared.Answer.{Answer}
-use Rattle.answers.specs.declared.Answer.TheVariants.{Done as Fine}
+use Rattle.layout.specs.Layout.{block_bytes, body_bytes, max_rows, row_count, table_of, open_fields, fields_of, body_of, sum_bytes}
+use Rattle.layout.specs.declared.Fields.{Fields}
+use Rattle.answers.specs.declared.Refusal.{Refusal}
 use Rattle.body.specs.Body.{RightBody}
 use Rattle.block.specs.Holding.{RightBlock}
 use Rattle.body.specs.Body.{body_tests}
@@ -50,7 +51,7 @@ use Rattle.accepted.specs.Accepted.{Accepted}
 use Rattle.accepted.proofs.CallsNumbered.{open_number, summary_number_fact, remove_number}
 use Rattle.accepted.proofs.AcceptedCalls.{remove_accepted, flip32_accepted, flips_facing, flip23_accepted}
 use Rattle.accepted.proofs.AfterRemoval.{page_given}
-use Rattle.demands.specs.Kernels.{ours, as_patch}
+use Rattle.demands.specs.Kernels.{Answer, ours, as_patch}
 use Rattle.demands.specs.FlipWords.{Faced}
 use Rattle.demands.specs.Demands.{Sealed, RemovalDone, Flip32Done, Flip23Done, FlipDone, Demand2}
 use Rattle.demands.proofs.SummaryGiven.{summary_of_block}
@@ -66,14 +67,19 @@ table_row block i h =
     λ j l. get_or-take (body_bytes - rows_at) (drop rows_at block) (row_size * i + j) 0 (omega arith) in
     rw (at 0 (omega arith), at 1 (omega arith), at 2 (omega arith), at 3 (omega arith), at 4 (omega arith))
 
+-- the fields in what is given
+ok_is : {x y : Fields} → ◌≡◌ {A = Result Fields Refusal} (Ok x) (Ok y) → x ≡ y
+ok_is e = cc
+
 -- the fields that opening gives are the block's, as a patch
-patch_read : (block : List ℕ) → RightBlock block → as_patch (open_gives block).fields ≡ fields_of block
+patch_read : (block : List ℕ) → RightBlock block → (fields : Fields) → open_gives block ≡ Ok fields → as_patch fields ≡ fields_of block
 unfolding fields_of rows_in
-patch_read block right =
+patch_read block right fields given =
     let rows : map (stored_row (version block) (table_of block)) (numbers_from 0 (row_count block)) ≡ map (row_in block) (numbers_from 0 (row_count block)) =
     map_same (stored_row (version block) (table_of block)) (row_in block) (numbers_from 0 (row_count block)) (λ i m.
     table_row block i (omega (arith, (numbers_e 0 (row_count block) m).1, right.body.few_rows))) in
-    rw (open_fields_lem block (opens block right), rows)
+    let same : open_fields block ≡ fields = ok_is (sym (open_fields_lem block (opens block right)) ∙ given) in
+    ap as_patch (sym same) ∙ rw rows
 
 module _ (block out : List ℕ) (e f : ℕ) where
   abbrev its : Site
@@ -158,7 +164,7 @@ flip_done block out =
 
 -- what is shown of a right block
 shown_done : (block : List ℕ) (out : List Float) → RightBlock block → length out ≡ max_rows
-    → ◌≡◌ {A = Answer × List Float} (answer_of (shown_answer block out), shown_elements block out) (Fine, shown_of (fields_of block))
+    → ◌≡◌ {A = Answer × List Float} (answer_of (shown_answer block out), shown_elements block out) (Ok tt, shown_of (fields_of block))
 shown_done block out right size =
     let done = shown_taken block out size (opens block right) in
     λ i. (answer_of (done i), shown_writes block out done i)
@@ -203,9 +209,9 @@ demand_2 = record {
   summary = summary_of_block;
   summary_right = λ block h. right_block block (sym (summary_number_fact block) ∙ h);
   shown = shown_done;
-  shown_right = λ block out h. let (size, o) = shown_opens block out (sym (number_of_lem _) ∙ h) in (right_block block o, size);
-  seal_right = λ body out size right room. number_of_lem _ ∙ seal_taken body out size right room;
-  seal = λ body out h. seal_done body out (sym (number_of_lem _) ∙ h);
+  shown_right = λ block out h. let (size, o) = shown_opens block out (sym (number_of_lem _ tt) ∙ h) in (right_block block o, size);
+  seal_right = λ body out size right room. number_of_lem _ tt ∙ seal_taken body out size right room;
+  seal = λ body out h. seal_done body out (sym (number_of_lem _ tt) ∙ h);
   remove = λ block out e f h. removal_done block out e f (sym (remove_number block out e f) ∙ h);
-  flip = λ block out numbers h. flip_done block out numbers (sym (number_of_lem _) ∙ h);
+  flip = λ block out numbers h. flip_done block out numbers (sym (number_of_lem _ tt) ∙ h);
 }

@@ -50,6 +50,6 @@ module _ (block out numbers : List ℕ) (size : length out ≡ block_bytes) wher
 pub tells_count : Tells21 ours
 unfolding ours
 tells_count = record {
-  block_first = λ block out numbers wrong size. number_of_lem _ ∙ block_first block out numbers size wrong ∙ sym (open_number block);
+  block_first = λ block out numbers wrong size. number_of_lem _ tt ∙ block_first block out numbers size wrong ∙ sym (open_number block);
   twenty_one = λ block out numbers right size. returned (tells_21 block out numbers size right);
 }

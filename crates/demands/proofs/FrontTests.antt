@@ -110,4 +110,4 @@ rule_0 answer false e = (λ h. omega arith, λ h. absurd h)
 
 -- what is said of the number is said of the answer returned
 pub returned : {n k : ℕ} {W : Type 0} → (n ≡ k) ↔ W → (number_of (answer_of n) ≡ k) ↔ W
-returned {n} told = (λ h. told.0 (sym (number_of_lem n) ∙ h), λ w. number_of_lem n ∙ told.1 w)
+returned {n} told = (λ h. told.0 (sym (number_of_lem n tt) ∙ h), λ w. number_of_lem n tt ∙ told.1 w)

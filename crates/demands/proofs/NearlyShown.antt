@@ -51,8 +51,8 @@ near_shown k meets = record {
       rw its (row_near block bytes (get_or (fields_of block).rows i no_row));
   page = λ block out e f bytes done.
       let removed = meets.remove block out e f done in (
-        page_row (shown (worst_of_patch (fields_of block))) (shown (worst_of_patch (fields_of (k.remove block out e f).1))),
-        ap (λ given. given.removal) removed.page,
+        _,
+        removed.page,
         worst_near block bytes (fields_of block) refl,
         worst_near block bytes (fields_of (k.remove block out e f).1) removed.accepted.points,
       );

@@ -1,27 +1,23 @@
 -- Our kernel gives every right block its summary: the laws of lists of qualities, brought to the rows of a block. And any kernel that
 -- gives every right block its summary gives the same.
 use Prim.Native.Nat.{ℕ, suc, ◌*◌, ◌^◌, ◌≤◌, ◌<◌}
-use mathlib.Core.Bool.{Bool, true, false}
 use mathlib.Core.List.Memᴰ
 use mathlib.Core.List.{List, [], ◌∷◌, map, cons-ne-nil, Memᴰ}
 use mathlib.Core.Logic.{◌↔◌}
-use mathlib.Core.Option.{Option, none, some}
+use mathlib.Core.Option as maybe
 use mathlib.Core.Path.{◌≡◌, refl, sym, ap, ◌∙◌, subst}
 use native.Mathlib.Decide.{dec_le, dec_lt}
 use native.Mathlib.Nat.{le_antisymm, mul-le-mul_right}
 use native.Mathlib.Omega.{arith}
 use lib.Dec.{T, lit<}
 use lib.ListN.{length}
+use Rattle.std.specs.Prelude.{Option, None, Some, is_some, unwrap_or, Ok}
 use Rattle.lists.specs.Lists.{count, every, sum}
 use Rattle.lists.proofs.Lists.{those_e}
 use Rattle.lists.proofs.Images.{map_same}
 use Rattle.volume.specs.declared.Point.{Point}
 use Rattle.quality.specs.declared.Quality.{Quality}
 use Rattle.score.specs.declared.Score.{Score}
-use Rattle.score.specs.declared.WorstScore.{WorstScore}
-use Rattle.score.specs.declared.WorstScore.TheVariants.{Worst, NoRows}
-use Rattle.score.specs.declared.Octave.{Octave}
-use Rattle.score.specs.declared.Octave.TheVariants.{Exponent, NoUpright}
 use Rattle.volume.specs.Volume.{points_in}
 use Rattle.quality.specs.Quality.{quality, is_upright, worst}
 use Rattle.score.specs.Score.{score_of, badness, added, total_badness, worst_score, octave_of, octave}
@@ -43,7 +39,6 @@ use Rattle.layout.specs.Within.{is_byte}
 use Rattle.layout.proofs.BytesOfSlices.{part_bytes_lem}
 use Rattle.tally.proofs.RowsInBytes.{place_within, row_small}
 use Rattle.summary.proofs.BadnessFits.{badness_limit, badness_most, qualities_rows}
-use Rattle.calls.specs.declared.Summarised.TheVariants.{Summary as Summed}
 use Rattle.accepted.proofs.AfterRemoval.{summary_opened}
 use Rattle.demands.specs.Kernels.{ours}
 use Rattle.demands.specs.Summaries.{over0, uprights, BadnessIs, BadnessSum, WorstIs, OctaveIs, max_badness, Bounded, SumsFit}
@@ -51,31 +46,9 @@ use Rattle.demands.specs.Summaries.{Sums, Summarises, OneSummary}
 use Rattle.demands.proofs.QualityByDAndS.{row_score, one_score, badness_is, one_badness, by_D_and_S, upright_count, flat_count}
 use Rattle.demands.proofs.QualityByDAndS.{inverted_count, three_counts, row_badness, upright_sum}
 
--- ---- marks are no numbers
-
--- the number in a worst score
-abbrev worst_value : WorstScore → ℕ
-worst_value (Worst score) = score.value
-worst_value NoRows = 0
-
-abbrev has_rows : WorstScore → Bool
-has_rows (Worst score) = true
-has_rows NoRows = false
-
-not_no_rows : {score : Score} → Worst score ≡ NoRows → ⊥
-not_no_rows e = subst (λ w. T (has_rows w)) e tt
-
--- the number in an octave
-abbrev exponent : Octave → ℕ
-exponent (Exponent e) = e
-exponent NoUpright = 0
-
-abbrev has_upright : Octave → Bool
-has_upright (Exponent e) = true
-has_upright NoUpright = false
-
-not_no_upright : {e : ℕ} → Exponent e ≡ NoUpright → ⊥
-not_no_upright e = subst (λ o. T (has_upright o)) e tt
+-- a number is no mark
+not_none : {A : Type 0} {x : A} → Some x ≡ None → ⊥
+not_none e = subst (λ o. T (is_some o)) e tt
 
 -- a list of no length
 empty : {A : Type 0} (xs : List A) → length xs ≡ 0 → xs ≡ []
@@ -130,7 +103,7 @@ module _ (coordinates : List ℕ) (bytes : T (every is_byte coordinates)) (n : �
   fractions q m = ((qualities_rows coordinates bytes n rows).consistent q m).fraction
 
   -- of the worst of the qualities: it is that of a row
-  worst_at : (q : Quality) → worst qs ≡ some q → WorstIs patch (score_of q)
+  worst_at : (q : Quality) → worst qs ≡ maybe.some q → WorstIs patch (score_of q)
   worst_at q e =
       let w = worst_is_lem qs fractions e in
       let (row, inside, same) = Memᴰ.of_map (row_quality points) patch.rows w.inside in
@@ -144,21 +117,21 @@ module _ (coordinates : List ℕ) (bytes : T (every is_byte coordinates)) (n : �
             subst (λ n. score_of q ≤ n) (one_score (row_score points other) h) (least (row_quality points other) (Memᴰ.map (row_quality points) m));
       }
 
-  worst_said : (score : Score) → worst_score qs ≡ Worst score → WorstIs patch score.value
+  worst_said : (score : Score) → worst_score qs ≡ Some score → WorstIs patch score.value
   unfolding worst_score
   worst_said score said = go (worst qs) refl
     where
-      go : (o : Option Quality) → worst qs ≡ o → WorstIs patch score.value
-      go (some q) e = subst (WorstIs patch) (ap worst_value (sym (worst_score_smallest qs fractions e).0 ∙ said)) (worst_at q e)
-      go none e = absurd (not_no_rows (sym (rw (e, worst_score) at said)))
+      go : (o : maybe.Option Quality) → worst qs ≡ o → WorstIs patch score.value
+      go (maybe.some q) e = subst (WorstIs patch) (ap (λ w. (unwrap_or w score).value) (sym (worst_score_smallest qs fractions e).0 ∙ said)) (worst_at q e)
+      go maybe.none e = absurd (not_none (sym (rw (e, worst_score) at said)))
 
-  no_rows_said : (worst_score qs ≡ NoRows) ↔ (patch.rows ≡ [])
+  no_rows_said : (worst_score qs ≡ None) ↔ (patch.rows ≡ [])
   unfolding worst_score worst
   no_rows_said = go patch.rows
     where
-      go : (rows : List Row) → (worst_score (map (row_quality points) rows) ≡ NoRows) ↔ (rows ≡ [])
+      go : (rows : List Row) → (worst_score (map (row_quality points) rows) ≡ None) ↔ (rows ≡ [])
       go [] = (λ e. refl, λ e. refl)
-      go (row ∷ rows) = (λ e. absurd (not_no_rows e), λ e. absurd (cons-ne-nil row rows e))
+      go (row ∷ rows) = (λ e. absurd (not_none e), λ e. absurd (cons-ne-nil row rows e))
 
   -- ---- the octave
 
@@ -185,23 +158,23 @@ module _ (coordinates : List ℕ) (bytes : T (every is_byte coordinates)) (n : �
     next = rw counted at o.next;
   }
 
-  octave_said : (e : ℕ) → octave qs ≡ Exponent e → OctaveIs patch e
+  octave_said : (e : ℕ) → octave qs ≡ Some e → OctaveIs patch e
   octave_said e said = go (dec_lt 0 (count is_upright qs))
     where
       go : Dec (0 < count is_upright qs) → OctaveIs patch e
       go (yes l) =
           let o = octave_at l in
-          subst (OctaveIs patch) (ap exponent (sym o.mark ∙ said)) (octave_is_lem _ o)
-      go (no l) = absurd (not_no_upright (sym said ∙ octave_of_none qs (omega arith)))
+          subst (OctaveIs patch) (ap (λ o. unwrap_or o e) (sym o.mark ∙ said)) (octave_is_lem _ o)
+      go (no l) = absurd (not_none (sym said ∙ octave_of_none qs (omega arith)))
 
-  no_upright_said : (octave qs ≡ NoUpright) ↔ (uprights patch ≡ [])
+  no_upright_said : (octave qs ≡ None) ↔ (uprights patch ≡ [])
   no_upright_said = (there, λ e. octave_of_none qs (counted ∙ ap length e))
     where
-      there : octave qs ≡ NoUpright → uprights patch ≡ []
+      there : octave qs ≡ None → uprights patch ≡ []
       there said = go (dec_lt 0 (count is_upright qs))
         where
           go : Dec (0 < count is_upright qs) → uprights patch ≡ []
-          go (yes l) = absurd (not_no_upright (sym (octave_at l).mark ∙ said))
+          go (yes l) = absurd (not_none (sym (octave_at l).mark ∙ said))
           go (no l) = empty (uprights patch) (omega (arith, counted))
 
   -- ---- the summary
@@ -277,26 +250,26 @@ module _ (patch : Patch) {s t : Summary} (h : Sums patch s) (k : Sums patch t) w
   same_worst : s.worst ≡ t.worst
   same_worst = go s.worst t.worst h.worst h.no_rows.0 k.worst k.no_rows.0
     where
-      go : (v w : WorstScore)
-          → ((a : Score) → v ≡ Worst a → WorstIs patch a.value) → (v ≡ NoRows → patch.rows ≡ [])
-          → ((a : Score) → w ≡ Worst a → WorstIs patch a.value) → (w ≡ NoRows → patch.rows ≡ [])
+      go : (v w : Option Score)
+          → ((a : Score) → v ≡ Some a → WorstIs patch a.value) → (v ≡ None → patch.rows ≡ [])
+          → ((a : Score) → w ≡ Some a → WorstIs patch a.value) → (w ≡ None → patch.rows ≡ [])
           → v ≡ w
-      go (Worst a) (Worst b) f f0 g g0 = ap (λ n. Worst (record { value = n })) (worst_one patch (f a refl) (g b refl))
-      go (Worst a) NoRows f f0 g g0 = absurd (Memᴰ.not-nil (rw (g0 refl) at (f a refl).inside))
-      go NoRows (Worst b) f f0 g g0 = absurd (Memᴰ.not-nil (rw (f0 refl) at (g b refl).inside))
-      go NoRows NoRows f f0 g g0 = refl
+      go (Some a) (Some b) f f0 g g0 = ap (λ n. Some (record { value = n })) (worst_one patch (f a refl) (g b refl))
+      go (Some a) None f f0 g g0 = absurd (Memᴰ.not-nil (rw (g0 refl) at (f a refl).inside))
+      go None (Some b) f f0 g g0 = absurd (Memᴰ.not-nil (rw (f0 refl) at (g b refl).inside))
+      go None None f f0 g g0 = refl
 
   same_octave : s.octave ≡ t.octave
   same_octave = go s.octave t.octave h.octave h.no_upright.0 k.octave k.no_upright.0
     where
-      go : (v w : Octave)
-          → ((e : ℕ) → v ≡ Exponent e → OctaveIs patch e) → (v ≡ NoUpright → uprights patch ≡ [])
-          → ((e : ℕ) → w ≡ Exponent e → OctaveIs patch e) → (w ≡ NoUpright → uprights patch ≡ [])
+      go : (v w : Option ℕ)
+          → ((e : ℕ) → v ≡ Some e → OctaveIs patch e) → (v ≡ None → uprights patch ≡ [])
+          → ((e : ℕ) → w ≡ Some e → OctaveIs patch e) → (w ≡ None → uprights patch ≡ [])
           → v ≡ w
-      go (Exponent d) (Exponent e) f f0 g g0 = ap Exponent (octave_one patch (f d refl) (g e refl))
-      go (Exponent d) NoUpright f f0 g g0 = absurd (octave_some patch (f d refl) (g0 refl))
-      go NoUpright (Exponent e) f f0 g g0 = absurd (octave_some patch (g e refl) (f0 refl))
-      go NoUpright NoUpright f f0 g g0 = refl
+      go (Some d) (Some e) f f0 g g0 = ap Some (octave_one patch (f d refl) (g e refl))
+      go (Some d) None f f0 g g0 = absurd (octave_some patch (f d refl) (g0 refl))
+      go None (Some e) f f0 g g0 = absurd (octave_some patch (g e refl) (f0 refl))
+      go None None f f0 g g0 = refl
 
   -- a patch has one summary
   sums_one : s ≡ t
@@ -312,4 +285,4 @@ pub one_summary : OneSummary
 one_summary k l hk hl block bytes right =
     let (s, given, sums, bounds) = hk block bytes right in
     let (t, given', sums', bounds') = hl block bytes right in
-    given ∙ ap Summed (sums_one (fields_of block) sums sums') ∙ sym given'
+    given ∙ ap Ok (sums_one (fields_of block) sums sums') ∙ sym given'

@@ -1,21 +1,21 @@
 -- Requirement §11: the three demands, as statements about any kernel. All premises and arrows stand in them, and what is said of a block is
 -- said in words of the layout and the mesh rule, never by an answer; the table of answers stands in demand 1 alone, which fixes the numbers.
-use Rattle.std.specs.Prelude.{ℕ, min, max, Bool, List, [], ◌∷◌, ◌↔◌, ◌≡◌, T, Float, length}
+use Rattle.std.specs.Prelude.{ℕ, min, max, Bool, List, [], ◌∷◌, ◌↔◌, ◌≡◌, T, Float, length, Result, Ok, Err}
 use Rattle.lists.specs.Lists.{every, has}
 use Rattle.page.specs.Page.{shown, page_row}
 use Rattle.rows.specs.Rows.{version, holds_edge, holds_face}
-use Rattle.answers.specs.declared.Answer.TheVariants.{Done as Fine}
+use Rattle.answers.specs.declared.Refusal.{Refusal}
 use Rattle.layout.specs.Layout.{Patch, block_bytes, body_bytes, max_rows, fields_of, bytes_of}
 use Rattle.layout.specs.Within.{is_byte}
 use Rattle.block.specs.Holding.{Holdable, RightBlock}
 use Rattle.body.specs.Body.{RightBody}
 use Rattle.block.specs.Opening.{open_answer, seal_answer}
-use Rattle.layout.specs.Layout.{open_fields, no_fields}
+use Rattle.layout.specs.declared.Fields.{Fields}
+use Rattle.layout.specs.Layout.{open_fields}
 use Rattle.tally.specs.Tally.{worst_of_patch}
 use Rattle.display.specs.Display.{shown_answer, shown_of}
 use Rattle.ring.specs.Ring.{Site, ring_with}
 use Rattle.triangulation.specs.Triangulation.{Triangle}
-use Rattle.calls.specs.declared.Removal.TheVariants.{Done}
 use Rattle.calls.specs.declared.Removed.{Removed}
 use Rattle.calls.specs.Removing.{rows_made, remove_answer}
 use Rattle.calls.specs.Flipping.{flip_answer}
@@ -43,12 +43,12 @@ pub record Numbered (k : Kernel) : Type 0 where
   pub remove_number : (block out : List ℕ) (e f : ℕ) → removes k block out e f ≡ remove_answer block out e f
   pub flip_number : (block out numbers : List ℕ) → flips k block out numbers ≡ flip_answer block out numbers
 
--- Each call's number is the table's and on the call's list. Any number but 0 leaves the output as it came, and beside it stand no fields and
--- no ring.
+-- Each call's number is the table's and on the call's list. Any number but 0 leaves the output as it came, and is all that is returned: with it
+-- come no fields, no page row and no ring.
 pub record Demand1 (k : Kernel) : Type 0 where
   pub numbers : Numbered k
   pub open_listed : (block : List ℕ) → T (has open_numbers (opens k block))
-  pub open_alone : (block : List ℕ) → (opens k block ≡ 0 → ⊥) → (k.read block).fields ≡ no_fields
+  pub open_alone : (block : List ℕ) → (opens k block ≡ 0 → ⊥) → (refusal : Refusal) × (k.read block ≡ Err refusal)
   pub summary_listed : (block : List ℕ) → T (has open_numbers (summarises k block))
   pub shown_listed : (block : List ℕ) (out : List Float) → T (has open_numbers (shows k block out))
   pub shown_keeps : (block : List ℕ) (out : List Float) → (shows k block out ≡ 0 → ⊥) → (k.shown block out).1 ≡ out
@@ -56,7 +56,8 @@ pub record Demand1 (k : Kernel) : Type 0 where
   pub seal_keeps : (body out : List ℕ) → (seals k body out ≡ 0 → ⊥) → (k.seal body out).1 ≡ out
   pub remove_listed : (block out : List ℕ) (e f : ℕ) → T (has remove_numbers (removes k block out e f))
   pub remove_keeps : (block out : List ℕ) (e f : ℕ) → (removes k block out e f ≡ 0 → ⊥) → (k.remove block out e f).1 ≡ out
-  pub remove_alone : (block out : List ℕ) (e f : ℕ) → (removes k block out e f ≡ 0 → ⊥) → (k.remove block out e f).0.ring ≡ ring_with []
+  pub remove_alone : (block out : List ℕ) (e f : ℕ) → (removes k block out e f ≡ 0 → ⊥)
+      → (refusal : Refusal) × ((k.remove block out e f).0 ≡ Err refusal)
   pub flip_listed : (block out numbers : List ℕ) → T (has (flip_numbers numbers) (flips k block out numbers))
   pub flip_keeps : (block out numbers : List ℕ) → (flips k block out numbers ≡ 0 → ⊥) → (k.flip block out numbers).1 ≡ out
 
@@ -81,7 +82,7 @@ pub record Sealed (body out output : List ℕ) : Type 0 where
 
 -- A removal that is done: its edge meets the third demand's premises, and the new rows are those of that ring's or chain's chosen way, with
 -- their marks; beside the bytes stand the page row and v1..vm.
-pub record RemovalDone (block out : List ℕ) (e f : ℕ) (gives : Removed) (output : List ℕ) : Type 0 where
+pub record RemovalDone (block out : List ℕ) (e f : ℕ) (gives : Result Removed Refusal) (output : List ℕ) : Type 0 where
   pub closed : Bool
   pub vs : List ℕ
   pub premises : Premises block out e f closed vs
@@ -89,7 +90,7 @@ pub record RemovalDone (block out : List ℕ) (e f : ℕ) (gives : Removed) (out
       Accepted block output (holds_edge (min e f) (max e f)) (rows_made site)
   pub page : let before = worst_of_patch (fields_of block) in
       let after = worst_of_patch (fields_of output) in
-      gives ≡ record { removal = Done (page_row (shown before) (shown after)); ring = ring_with vs }
+      gives ≡ Ok (record { page = page_row (shown before) (shown after); ring = ring_with vs })
 
 -- A 3-2 flip that is done: its edge has a closed ring u, v, w of one region in a right block, no marked face goes, and the new rows are (a,u,v,w) and (u,v,w,b).
 pub record Flip32Done (block out : List ℕ) (e f : ℕ) (output : List ℕ) : Type 0 where
@@ -125,8 +126,8 @@ FlipDone block out (x ∷ y ∷ z ∷ w ∷ more) output = ⊥
 
 -- Opening, the summary and what is shown of a right block, the layout there and back, and what each call that writes leaves with 0.
 pub record Demand2 (k : Kernel) : Type 0 where
-  pub read_fields : (block : List ℕ) → RightBlock block → k.read block ≡ record { answer = Fine; fields = open_fields block }
-  pub read_patch : (block : List ℕ) → RightBlock block → as_patch (k.read block).fields ≡ fields_of block
+  pub read_fields : (block : List ℕ) → RightBlock block → k.read block ≡ Ok (open_fields block)
+  pub read_patch : (block : List ℕ) → RightBlock block → (fields : Fields) → k.read block ≡ Ok fields → as_patch fields ≡ fields_of block
   pub read_right : (block : List ℕ) → opens k block ≡ 0 → RightBlock block
   pub layout : (block : List ℕ) → T (every is_byte block) → RightBlock block → bytes_of (version block) (fields_of block) ≡ block
   pub layout_back : (v : ℕ) (patch : Patch) → Holdable v patch
@@ -134,7 +135,7 @@ pub record Demand2 (k : Kernel) : Type 0 where
   pub summary : Summarises k
   pub summary_right : (block : List ℕ) → summarises k block ≡ 0 → RightBlock block
   pub shown : (block : List ℕ) (out : List Float) → RightBlock block → length out ≡ max_rows
-      → k.shown block out ≡ (Fine, shown_of (fields_of block))
+      → k.shown block out ≡ (Ok tt, shown_of (fields_of block))
   pub shown_right : (block : List ℕ) (out : List Float) → shows k block out ≡ 0 → RightBlock block × (length out ≡ max_rows)
   pub seal_right : (body out : List ℕ) → length body ≡ body_bytes → RightBody body → length out ≡ block_bytes → seals k body out ≡ 0
   pub seal : (body out : List ℕ) → seals k body out ≡ 0 → Sealed body out (k.seal body out).1

@@ -1,13 +1,16 @@
 -- Requirement §6.1, §8 and §9.3: what is promised beside the demands, as statements about any kernel: room, either order of the ends, any
 -- order of the rows, and a 3-2 flip after a 2-3 flip. They speak of what a call returns and of the bytes that it leaves, never of how a
 -- kernel finds them.
-use Rattle.std.specs.Prelude.{ℕ, ◌<◌, min, max, Bool, true, false, not, List, [], ◌∷◌, ◌↔◌, ◌≡◌, T, length, take, drop}
+use Rattle.std.specs.Prelude.{ℕ, ◌<◌, min, max, Bool, true, false, not, List, [], ◌∷◌, ◌↔◌, ◌≡◌, T, length, take, drop, Result, Ok, Err}
 use Rattle.lists.specs.Lists.{any, count}
 use Rattle.rows.specs.declared.Row.{Row}
 use Rattle.rows.specs.Rows.{holds_edge, holds_face}
 use Rattle.rows.specs.Tetrahedra.{SameTetrahedra}
 use Rattle.layout.specs.Layout.{block_bytes, fields_of}
+use Rattle.answers.specs.declared.Refusal.{Refusal}
 use Rattle.block.specs.Holding.{RightBlock}
+use Rattle.ring.specs.declared.Ring.{Ring}
+use Rattle.calls.specs.declared.Removed.{Removed}
 use Rattle.tables.specs.FlipRows.{Apexes}
 use Rattle.demands.specs.Premises.{Ringed, FlatChain, OneMaterial, MarksStay}
 use Rattle.demands.specs.Kernels.{Kernel, removes, flips}
@@ -57,12 +60,17 @@ pub record SameOutput (goes : Row → Bool) (block other output its-output : Lis
   pub stayed : SameTetrahedra (take (staying goes block) (fields_of output).rows) (take (staying goes other) (fields_of its-output).rows)
   pub behind : drop (staying goes block) (fields_of output).rows ≡ drop (staying goes other) (fields_of its-output).rows
 
+-- the ring or chain that a removal returns, or its refusal
+abbrev pub ring_given : Result Removed Refusal → Result Ring Refusal
+ring_given (Ok removed) = Ok removed.ring
+ring_given (Err refusal) = Err refusal
+
 -- the answers of a removal and of a flip are the same, with 0 so is the output as above, and a removal returns the same ring; of a flip the
 -- rows go that hold all of its numbers
 pub record AnyRowOrder (k : Kernel) : Type 0 where
   pub remove_answer_fact : (block other out : List ℕ) (e f : ℕ) → SameMesh block other → removes k block out e f ≡ removes k other out e f
   pub ring : (block other out : List ℕ) (e f : ℕ) → SameMesh block other
-      → (k.remove block out e f).0.ring ≡ (k.remove other out e f).0.ring
+      → ring_given (k.remove block out e f).0 ≡ ring_given (k.remove other out e f).0
   pub remove_output : (block other out : List ℕ) (e f : ℕ) → SameMesh block other → removes k block out e f ≡ 0
       → SameOutput (holds_edge (min e f) (max e f)) block other (k.remove block out e f).1 (k.remove other out e f).1
   pub flip_answer_fact : (block other out numbers : List ℕ) → SameMesh block other

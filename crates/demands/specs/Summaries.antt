@@ -1,13 +1,11 @@
 -- The summary of a block as a statement about any kernel: counts, worst score and octave by D and S of the rows, never by what a call
 -- computes; and how large D, S, numerators, denominators, badness and its sums get.
-use Rattle.std.specs.Prelude.{ℕ, suc, ◌+◌, ◌*◌, ◌^◌, ◌≤◌, ◌<◌, Bool, not, ◌↔◌, ◌≡◌, T, ℤ, pos, nat_abs, length}
+use Rattle.std.specs.Prelude.{ℕ, suc, ◌+◌, ◌*◌, ◌^◌, ◌≤◌, ◌<◌, Bool, not, ◌↔◌, ◌≡◌, T, ℤ, pos, nat_abs, length, Ok, None, Some}
 use mathlib.Core.List.{List, [], map, Memᴰ}
 use Rattle.std.specs.Int.Signed.{lt_z}
 use Rattle.lists.specs.Lists.{count, every, those, sum}
 use Rattle.volume.specs.declared.Point.{Point}
 use Rattle.score.specs.declared.Score.{Score}
-use Rattle.score.specs.declared.WorstScore.TheVariants.{Worst, NoRows}
-use Rattle.score.specs.declared.Octave.TheVariants.{Exponent, NoUpright}
 use Rattle.volume.specs.Volume.{same_z}
 use Rattle.quality.specs.Quality.{quality_factor, worse}
 use Rattle.score.specs.Score.{lowest_score, highest_score, score_factor}
@@ -17,7 +15,6 @@ use Rattle.layout.specs.Layout.{Patch, fields_of}
 use Rattle.layout.specs.Within.{is_byte}
 use Rattle.block.specs.Holding.{RightBlock}
 use Rattle.summary.specs.declared.Summary.{Summary}
-use Rattle.calls.specs.declared.Summarised.TheVariants.{Summary as Summed}
 use Rattle.demands.specs.Kernels.{Kernel}
 
 -- ---- rows by the sign of D
@@ -127,16 +124,16 @@ pub record Sums (patch : Patch) (summary : Summary) : Type 0 where
   pub flat : summary.flat ≡ count (λ row. equal0 (row_d patch.points row)) patch.rows
   pub inverted : summary.inverted ≡ count (λ row. below0 (row_d patch.points row)) patch.rows
   pub all_rows : summary.upright + summary.flat + summary.inverted ≡ length patch.rows
-  pub worst : (score : Score) → summary.worst ≡ Worst score → WorstIs patch score.value
-  pub no_rows : (summary.worst ≡ NoRows) ↔ (patch.rows ≡ [])
-  pub octave : (e : ℕ) → summary.octave ≡ Exponent e → OctaveIs patch e
-  pub no_upright : (summary.octave ≡ NoUpright) ↔ (uprights patch ≡ [])
+  pub worst : (score : Score) → summary.worst ≡ Some score → WorstIs patch score.value
+  pub no_rows : (summary.worst ≡ None) ↔ (patch.rows ≡ [])
+  pub octave : (e : ℕ) → summary.octave ≡ Some e → OctaveIs patch e
+  pub no_upright : (summary.octave ≡ None) ↔ (uprights patch ≡ [])
 
 -- a kernel gives every right block of bytes its summary, and every row of it is within the bounds
 abbrev pub Summarises : Kernel → Type 0
 Summarises k =
     (block : List ℕ) → T (every is_byte block) → RightBlock block
-    → (summary : Summary) × (k.summary block ≡ Summed summary) × Sums (fields_of block) summary
+    → (summary : Summary) × (k.summary block ≡ Ok summary) × Sums (fields_of block) summary
     × ((row : Row) → Memᴰ row (fields_of block).rows → Bounded (fields_of block).points row)
 
 -- two kernels that do so give one summary: the statement admits one outcome

@@ -12,15 +12,14 @@ use lib.Seq.{paste-suc, take_all}
 use Rattle.lists.proofs.Images.{map_at}
 use Rattle.quality.specs.declared.Quality.{Quality}
 use Rattle.page.specs.declared.Shown.{Shown}
-use Rattle.volume.specs.Volume.{points_in}
 use Rattle.page.specs.Page.{plus_zero, shown, signed_size}
-use Rattle.rows.specs.declared.Row.{Row}
 use Rattle.rows.specs.Rows.{row_in, no_row}
 use Rattle.rows.specs.RowMeasure.{row_quality}
 use Rattle.display.specs.Display.{row_shown}
 use Rattle.rows.proofs.RowsOfTables.{rows_length, rows_at_lem}
 use Rattle.layout.specs.Layout.{Patch, max_rows}
-use Rattle.tally.specs.Tally.{patch_in}
+use Rattle.tally.specs.declared.MeasuredRows.{MeasuredRows}
+use Rattle.tally.specs.Patches.{patch_of}
 use Rattle.display.specs.Display.{shown_sizes, shown_of}
 
 -- behind a list stands what is taken where it has no element
@@ -73,19 +72,18 @@ module _ (patch : Patch) where
 
 -- ---- element i of the rows of a table
 
-module _ (coordinates : List ℕ) (count : ℕ) (table : List ℕ) (n i : ℕ) where
+module _ (rows : MeasuredRows) (i : ℕ) where
   -- row i, measured, shown and with its sign
-  pub table_shown : i < n → (row : Row) (q : Quality) (s : Shown) (x : Float)
-      → row ≡ row_in table i
-      → q ≡ row_quality (points_in coordinates count) row
+  pub table_shown : i < rows.n → (q : Quality) (s : Shown) (x : Float)
+      → q ≡ row_quality (patch_of rows).points (row_in rows.table.now i)
       → s ≡ shown q
       → x ≡ signed_size s
-      → x ≡ get_or (shown_of (patch_in coordinates count table n)) i plus_zero
-  table_shown h row q s x e1 e2 e3 e4 =
-      let own = rows_at_lem table n i no_row h in
-      e4 ∙ (ap signed_size (e3 ∙ ap shown (e2 ∙ ap (row_quality (points_in coordinates count)) (e1 ∙ sym own)))
-      ∙ sym (element_shown (patch_in coordinates count table n) i (omega (arith, rows_length table n))))
+      → x ≡ get_or (shown_of (patch_of rows)) i plus_zero
+  table_shown h q s x e1 e2 e3 =
+      let own = rows_at_lem rows.table.now rows.n i no_row h in
+      e3 ∙ (ap signed_size (e2 ∙ ap shown (e1 ∙ ap (row_quality (patch_of rows).points) (sym own)))
+      ∙ sym (element_shown (patch_of rows) i (omega (arith, rows_length rows.table.now rows.n))))
 
   -- no row
-  pub table_zero : n ≤ i → get_or (shown_of (patch_in coordinates count table n)) i plus_zero ≡ plus_zero
-  table_zero h = element_zero (patch_in coordinates count table n) i (omega (arith, rows_length table n))
+  pub table_zero : rows.n ≤ i → get_or (shown_of (patch_of rows)) i plus_zero ≡ plus_zero
+  table_zero h = element_zero (patch_of rows) i (omega (arith, rows_length rows.table.now rows.n))

@@ -12,15 +12,17 @@ use Rattle.lists.specs.Lists.{any, has}
 use Rattle.page.specs.Page.{plus_zero, signed_size}
 use Rattle.rows.specs.Rows.{no_row}
 use Rattle.display.specs.Display.{row_shown}
-use Rattle.answers.specs.declared.Answer.{Answer}
-use Rattle.answers.specs.declared.Answer.TheVariants.{Done, Refused}
-use Rattle.layout.specs.Layout.{max_rows, point_count, row_count, coordinates_of, fields_of}
+use Rattle.std.specs.Prelude.{Result, Ok, Err}
+use Rattle.answers.specs.declared.Refusal.{Refusal}
+use Rattle.layout.specs.Layout.{Patch, max_rows, fields_of}
 use Rattle.answers.specs.Answers.{answer_of}
 use Rattle.block.specs.Opening.{open_answer}
 use Rattle.block.proofs.OpenedAndSealed.{open_list}
-use Rattle.answers.proofs.Refusals.{answer_done, answer_refused}
+use Rattle.answers.proofs.Refusals.{given_done, given_refused}
+use Rattle.rows.proofs.RowsOfTables.{rows_length}
 use Rattle.layout.proofs.PatchWritten.{rows_counted}
-use Rattle.tally.specs.Tally.{patch_in}
+use Rattle.tally.specs.declared.MeasuredRows.{MeasuredRows}
+use Rattle.tally.specs.Patches.{patch_of}
 use Rattle.tally.proofs.OpensMeasured.{few_rows}
 use Rattle.display.specs.Display.{shown_answer, shown_of, shown_elements}
 use Rattle.display.proofs.ElementsInOrder.{element_shown, element_zero, elements_length}
@@ -82,33 +84,41 @@ module _ (block : List ℕ) (out : List Float) where
 
   -- ---- what the code gives, way out by way out
 
-  abbrev Gives : Answer → List Float → Type 0
+  abbrev Gives : Result (Unit {0}) Refusal → List Float → Type 0
   Gives answer elements = (answer ≡ answer_of (shown_answer block out)) × (elements ≡ shown_elements block out)
 
   -- an output of another length
-  pub other_length : (length out ≡ max_rows → ⊥) → Gives (Refused 1) out
+  pub other_length : (length out ≡ max_rows → ⊥) → Gives (Err (record { number = 1 })) out
   unfolding shown_answer shown_elements
   other_length other = (rw (ne_eqb (length out) max_rows other), rw (ne_eqb (length out) max_rows other))
 
-  module _ (size : length out ≡ max_rows) (answer : Answer) (opened : answer ≡ answer_of (open_answer block)) where
+  module _ (size : length out ≡ max_rows) where
     is_opening : shown_answer block out ≡ open_answer block
     unfolding shown_answer
     is_opening = rw (eq-eqb (length out) max_rows size)
 
     -- a refusal of opening
-    pub not_opened : (k : ℕ) → answer ≡ Refused k → Gives answer out
-    not_opened k refused = (
-      opened ∙ ap answer_of (sym is_opening),
-      sym (shown_keeps (λ done. answer_refused (open_answer block) k (sym opened ∙ refused) (sym is_opening ∙ done))),
-    )
+    pub not_opened : (refusal : Refusal) → answer_of (open_answer block) ≡ Err refusal → Gives (Err refusal) out
+    not_opened refusal refused =
+        let same : answer_of (shown_answer block out) ≡ Err refusal = ap answer_of is_opening ∙ refused in
+        (sym same, sym (shown_keeps (given_refused (shown_answer block out) tt refusal same)))
 
-    module _ (done : answer ≡ Done) where
+    module _ {done : Unit {0}} (opened : answer_of (open_answer block) ≡ Ok done) where
       pub opens : open_answer block ≡ 0
-      opens = answer_done (open_answer block) (sym opened ∙ done)
+      opens = given_done (open_answer block) tt done opened
 
       -- all elements
-      pub elements_written : (elements : List Float)
-          → elements ≡ shown_of (patch_in (coordinates_of block) (point_count block) block (row_count block))
-          → Gives answer elements
-      unfolding fields_of
-      elements_written elements own = (opened ∙ ap answer_of (sym is_opening), own ∙ sym (shown_writes (is_opening ∙ opens)))
+      pub elements_written : (elements : List Float) → elements ≡ shown_of (fields_of block) → Gives (Ok done) elements
+      elements_written elements own =
+          (sym (ap answer_of is_opening ∙ opened), own ∙ sym (shown_writes (is_opening ∙ opens)))
+
+      -- the rows of the block, measured, are few enough
+      pub few_measured : (rows : MeasuredRows) → patch_of rows ≡ fields_of block → rows.n ≤ max_rows
+      few_measured rows own =
+          omega (
+            arith,
+            few_rows block opens,
+            rows_counted block,
+            rows_length rows.table.now rows.n,
+            ap (λ (patch : Patch). length patch.rows) own,
+          )

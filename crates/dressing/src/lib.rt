@@ -1,15 +1,15 @@
 // Marks and rows that go: whether a marked face would go, and the marks of the rows that take their place.
 #![tactic(auto)]
 
-ghost use Rattle.std.specs.Prelude.{◌+◌, ◌-◌, ◌*◌, ◌≤◌, not, ◌&&◌, [], ◌∷◌, map, ◌≡◌, T, length, take};
+ghost use Rattle.std.specs.Prelude.{◌+◌, ◌-◌, ◌*◌, ◌≤◌, not, ◌&&◌, [], ◌∷◌, map, ◌≡◌, T, length};
 ghost use Rattle.lists.specs.Lists.{every, any, those, has, numbers_from};
 ghost use Rattle.rows.specs.Rows.{rows_at, row_size, row_in, rows_in, with_rows, holds_face};
 ghost use Rattle.rows.specs.Steps.{most_rows};
-ghost use Rattle.keys.specs.Steps.{most_keys, face_key};
+ghost use Rattle.keys.specs.Steps.{face_key};
 ghost use Rattle.marking.specs.Marking.{agree, marks_over, dress_by, dressed};
 ghost use Rattle.marking.specs.Steps.{keys_marked};
 
-use keys::MOST_KEYS;
+use keys::Keys;
 use rows::{Marks, Row};
 
 // ---- a marked face would go
@@ -58,33 +58,31 @@ pub fn mark_goes(table: &[u8], n: usize, x: u8, y: u8, z: u8) -> bool
 
 // ---- the marks of new rows
 
-// The keys of marked faces: of the rows that hold x, y and z as they are, of all others turned over. Their number is returned.
-fn gather(keys: &mut [u32; MOST_KEYS], table: &[u8], n: usize, x: u8, y: u8, z: u8) -> usize
-    requires { (length keys.old ≡ most_keys) × (rows_at + row_size * n ≤ length table.now) × (n ≤ most_rows) }
-    ensures { (length keys.new ≡ most_keys) × (result ≤ most_keys)
-        × (take result keys.new ≡ keys_marked (λ row. not (holds_face (x ∷ y ∷ z ∷ []) row)) (rows_in table.now n)) }
+// The keys of marked faces, in place of those that were there: of the rows that hold x, y and z as they are, of all others turned
+// over.
+fn gather(keys: &mut Keys, table: &[u8], n: usize, x: u8, y: u8, z: u8)
+    requires { (rows_at + row_size * n ≤ length table.now) × (n ≤ most_rows) }
+    ensures { keys.new ≡ keys_marked (λ row. not (holds_face (x ∷ y ∷ z ∷ []) row)) (rows_in table.now n) }
 {
+    keys.clear();
     if rows::unmarked(table) {
-        return 0;
+        return;
     }
-    let mut count: usize = 0;
     for i in 0..n {
         let row = rows::row_in(table, i);
-        count = marking::store_marked(keys, count, row, !rows::holds_face(row, x, y, z));
+        marking::store_marked(keys, row, !rows::holds_face(row, x, y, z));
     }
-    count
 }
 
-// The row with those faces marked whose keys are among the first n.
-fn dress_row(row: Row, keys: &[u32; MOST_KEYS], n: usize) -> Row
-    requires { (length keys.now ≡ most_keys) × (n ≤ most_keys) }
-    ensures { result ≡ dress_by (λ f. has (take n keys.now) (face_key f)) row }
+// The row with those faces marked whose keys are among these.
+fn dress_row(row: Row, keys: &Keys) -> Row
+    ensures { result ≡ dress_by (λ f. has keys.now (face_key f)) row }
 {
     let marks = Marks {
-        qrs: keys::among(keys, n, keys::face_key(row.q, row.r, row.s)),
-        psr: keys::among(keys, n, keys::face_key(row.p, row.s, row.r)),
-        pqs: keys::among(keys, n, keys::face_key(row.p, row.q, row.s)),
-        prq: keys::among(keys, n, keys::face_key(row.p, row.r, row.q)),
+        qrs: keys.has(keys::face_key(row.q, row.r, row.s)),
+        psr: keys.has(keys::face_key(row.p, row.s, row.r)),
+        pqs: keys.has(keys::face_key(row.p, row.q, row.s)),
+        prq: keys.has(keys::face_key(row.p, row.r, row.q)),
     };
     Row {
         p: row.p,
@@ -96,14 +94,14 @@ fn dress_row(row: Row, keys: &[u32; MOST_KEYS], n: usize) -> Row
     }
 }
 
-// The rows from one place to another with those faces marked whose keys are among the first n.
-fn dress_all(rows: &mut [u8], from: usize, end: usize, keys: &[u32; MOST_KEYS], n: usize)
-    requires { (from ≤ end) × (rows_at + row_size * end ≤ length rows.old) × (length keys.now ≡ most_keys) × (n ≤ most_keys) }
+// The rows from one place to another with those faces marked whose keys are among these.
+fn dress_all(rows: &mut [u8], from: usize, end: usize, keys: &Keys)
+    requires { (from ≤ end) × (rows_at + row_size * end ≤ length rows.old) }
     ensures { rows.new ≡ with_rows rows.old from
-        (map (dress_by (λ f. has (take n keys.now) (face_key f))) (map (row_in rows.old) (numbers_from from (end - from)))) }
+        (map (dress_by (λ f. has keys.now (face_key f))) (map (row_in rows.old) (numbers_from from (end - from)))) }
 {
     for i in from..end {
-        let row = dress_row(rows::row_in(rows, i), keys, n);
+        let row = dress_row(rows::row_in(rows, i), keys);
         rows::put_row(rows, i, row);
     }
 }
@@ -117,7 +115,7 @@ pub fn dress(table: &[u8], n: usize, x: u8, y: u8, z: u8, rows: &mut [u8], from:
         (those (λ row. not (holds_face (x ∷ y ∷ z ∷ []) row)) (rows_in table.now n))
         (map (row_in rows.old) (numbers_from from (end - from)))) }
 {
-    let mut keys = [0u32; MOST_KEYS];
-    let count = gather(&mut keys, table, n, x, y, z);
-    dress_all(rows, from, end, &keys, count);
+    let mut keys = Keys::new();
+    gather(&mut keys, table, n, x, y, z);
+    dress_all(rows, from, end, &keys);
 }

@@ -8,7 +8,8 @@ use borrow.Author.Tests.{eq-eqb, ne_eqb, lt-ltb, le-ltb}
 use lib.ListN.{length}
 use Rattle.lists.specs.Lists.{every, any, different}
 use Rattle.rows.specs.Rows.{rows_in}
-use Rattle.answers.specs.declared.Answer.TheVariants.{Refused}
+use Rattle.std.specs.Prelude.{Result, Err}
+use Rattle.answers.specs.declared.Refusal.{Refusal}
 use Rattle.layout.specs.Layout.{block_bytes, point_count, row_count, fields_of}
 use Rattle.answers.specs.Answers.{first_refusal}
 use Rattle.block.specs.Opening.{open_answer}
@@ -24,7 +25,7 @@ use Rattle.ring.specs.Ring.{ring_tests}
 use Rattle.ring.proofs.EdgeGoesRound.{found_rows}
 use Rattle.ring.proofs.RingInAnyOrder.{site_ordered}
 use Rattle.calls.specs.Removing.{block_tests}
-use Rattle.edge.specs.Steps.{edge_answer, edge_found, found_none}
+use Rattle.edge.specs.Steps.{edge_answer, edge_found}
 
 -- ---- both lengths, then opening
 
@@ -62,21 +63,21 @@ module _ (chains : Bool) (block : List ℕ) (e f : ℕ) (opens : open_answer blo
   abbrev site : Site
   site = site_of (fields_of block) e f
 
-  -- 9, with its number and nothing else
-  wrong_numbers : numbers_wrong (point_count block) (e ∷ f ∷ []) ≡ true → found_none (Refused 9) ≡ edge_found chains block e f
+  -- 9
+  wrong_numbers : numbers_wrong (point_count block) (e ∷ f ∷ []) ≡ true → Err (record { number = 9 }) ≡ edge_found chains block e f
   unfolding site_of edge_found edge_answer edge_tests first_refusal test_of before every
   wrong_numbers w =
       let wrong = ap (λ count. numbers_wrong count (e ∷ f ∷ [])) (points_counted block) ∙ w in
       let nine : edge_answer chains block e f ≡ 9 = stops 9 (edge_tests chains site e f ++ length_tests site) tt refl wrong in
       rw nine
 
-  pub edge_9_first : point_count block ≤ e → found_none (Refused 9) ≡ edge_found chains block e f
+  pub edge_9_first : point_count block ≤ e → Err (record { number = 9 }) ≡ edge_found chains block e f
   edge_9_first h = wrong_numbers (first_over (point_count block) e f h)
 
-  pub edge_9_second : e < point_count block → point_count block ≤ f → found_none (Refused 9) ≡ edge_found chains block e f
+  pub edge_9_second : e < point_count block → point_count block ≤ f → Err (record { number = 9 }) ≡ edge_found chains block e f
   edge_9_second h k = wrong_numbers (second_over (point_count block) e f h k)
 
-  pub edge_9_same : e < point_count block → f < point_count block → e ≡ f → found_none (Refused 9) ≡ edge_found chains block e f
+  pub edge_9_same : e < point_count block → f < point_count block → e ≡ f → Err (record { number = 9 }) ≡ edge_found chains block e f
   edge_9_same h k q = wrong_numbers (both_one (point_count block) e f h k q)
 
   -- 10 to 13, and the ring
@@ -94,7 +95,7 @@ module _ (chains : Bool) (block : List ℕ) (e f : ℕ) (opens : open_answer blo
   unfolding site_of edge_answer edge_tests ring_tests
   ring_left fine = goes_on 9 _ _ (ap (λ count. numbers_wrong count (e ∷ f ∷ [])) (points_counted block) ∙ fine)
 
-  pub edge_ring : (a b : ℕ) → a ≡ min e f → b ≡ max e f → e < point_count block → f < point_count block → (e ≡ f → ⊥) → (found : Found)
+  pub edge_ring : (a b : ℕ) → a ≡ min e f → b ≡ max e f → e < point_count block → f < point_count block → (e ≡ f → ⊥) → (found : Result Found Refusal)
       → found ≡ found_of chains (edge_in (rows_in block (row_count block)) a b) → found ≡ edge_found chains block e f
   unfolding fields_of site_of edge_found found_of
   edge_ring a b p q h k apart found g =

@@ -1,24 +1,27 @@
 -- What an edge in a block that opens gives: a refusal has the edge's number, and with answer 0 the edge has its ring or chain.
-use Prim.Native.Nat.{ℕ, ◌≤◌, ◌<◌, min, max}
-use mathlib.Core.Bool.{Bool, true, false, cond, ◌&&◌}
-use mathlib.Core.List.{List, [], ◌++◌}
+use Prim.Native.Nat.{ℕ, zero, suc, ◌≤◌, ◌<◌, min, max}
+use mathlib.Core.Bool.{Bool, true, false}
+use mathlib.Core.List.{List, ◌++◌}
 use mathlib.Core.Path.{◌≡◌, sym, ap, ◌∙◌, subst}
 use native.Mathlib.Omega.{arith}
 use borrow.Author.Tests.{ltb-false}
-use lib.Dec.{eqb, ltb}
+use lib.Dec.{ltb}
 use lib.ListN.{get_or}
-use Rattle.rows.specs.Steps.{regions_of, no_regions}
+use Rattle.rows.specs.Steps.{regions_of}
 use Rattle.lists.specs.Lists.{every}
 use Rattle.lists.proofs.Places.{at_in}
 use Rattle.lists.proofs.Tests.{neither_is}
-use Rattle.answers.specs.declared.Answer.TheVariants.{Done, Refused}
+use Rattle.std.specs.Prelude.{Ok, Err}
+use Rattle.answers.specs.declared.Refusal.{Refusal}
 use Rattle.layout.specs.Layout.{point_count, row_count, coordinates_of, fields_of}
-use Rattle.answers.specs.Answers.{first_refusal}
+use Rattle.answers.specs.Answers.{first_refusal, gives}
+use Rattle.answers.proofs.Refusals.{given_done, passed_on}
 use Rattle.block.specs.Opening.{open_answer}
 use Rattle.answers.proofs.ByNumber.{test_of, passes, both_passed}
 use Rattle.layout.proofs.PatchWritten.{points_counted}
 use Rattle.tally.proofs.OpensMeasured.{few_points, few_rows, opens_measured, marks_agree}
 use Rattle.ring.specs.declared.Found.{Found}
+use Rattle.ring.specs.declared.Ring.{Ring}
 use Rattle.ring.specs.Ring.{Site, site_of, m, min_ring, max_ring, rings_alone, edge_tests, length_tests, length_wrong, ring_with}
 use Rattle.ring.specs.SoundRing.{SoundRing}
 use Rattle.ring.proofs.RingInAnyOrder.{site_ordered}
@@ -26,40 +29,43 @@ use Rattle.kept_faces.specs.Steps.{Fillable}
 use Rattle.triangulation.specs.Steps.{site_in}
 use Rattle.calls.specs.Removing.{Sound}
 use Rattle.calls.proofs.CallTests.{taken}
-use Rattle.calls.proofs.HandedOn.{Number, number_handed, handed_done}
 use Rattle.calls.proofs.SoundEdges.{ends_fit, sound_site, ring_point}
 use Rattle.edge.specs.Steps.{edge_answer, edge_found, Ringed}
+use Rattle.edge.specs.declared.RingedEdge.{RingedEdge}
+use Rattle.edge.specs.Edges.{site_of_edge, IsEdgeOf}
+
+-- what is given with answer 0
+given_is : {A : Type 0} (n : ℕ) (x : A) {y : A} → gives n x ≡ Ok y → y ≡ x
+given_is zero x e = cc
+given_is (suc n) x e = cc
 
 module _ (chains : Bool) (block : List ℕ) (e f : ℕ) (opens : open_answer block ≡ 0) where
   abbrev site : Site
   site = site_of (fields_of block) e f
 
-  -- a refusal has the edge's number
-  pub found_refused : (found : Found) → found ≡ edge_found chains block e f → (n : ℕ) → found.answer ≡ Refused n
-      → Number (edge_answer chains block e f) n
+  -- a refusal is passed on by a call whose answer is the edge's
+  pub found_refused : {refusal : Refusal} → edge_found chains block e f ≡ Err refusal → {A : Type 0} (k : ℕ) (x : A)
+      → ((edge_answer chains block e f ≡ 0 → ⊥) → k ≡ edge_answer chains block e f) → Err refusal ≡ gives k x
   unfolding edge_found
-  found_refused found i n h = number_handed (edge_answer chains block e f) n (sym (ap (λ (found : Found). found.answer) i) ∙ h)
+  found_refused i k x same = passed_on (edge_answer chains block e f) k _ x i same
 
-  module _ (found : Found) (i : found ≡ edge_found chains block e f) (h : found.answer ≡ Done) where
+  module _ (found : Found) (i : edge_found chains block e f ≡ Ok found) where
     edge_passes : edge_answer chains block e f ≡ 0
     unfolding edge_found
-    edge_passes = handed_done (edge_answer chains block e f) found.answer (ap (λ (found : Found). found.answer) i) h
+    edge_passes = given_done (edge_answer chains block e f) _ found i
+
+    pub own_found : found ≡ record { closed = site.closed; ring = ring_with site.ring; regions = regions_of site.removed }
+    unfolding edge_found
+    own_found = given_is (edge_answer chains block e f) _ i
 
     pub own_ring : found.ring ≡ ring_with site.ring
-    unfolding edge_found
-    own_ring =
-        ap (λ (found : Found). found.ring) i
-        ∙ ap (λ n. ring_with (cond (eqb n 0) site.ring [])) edge_passes
+    own_ring = ap (λ (found : Found). found.ring) own_found
 
     pub own_closed : found.closed ≡ site.closed
-    unfolding edge_found
-    own_closed = ap (λ (found : Found). found.closed) i ∙ ap (λ n. eqb n 0 && site.closed) edge_passes
+    own_closed = ap (λ (found : Found). found.closed) own_found
 
     pub own_regions : found.regions ≡ regions_of site.removed
-    unfolding edge_found
-    own_regions =
-        ap (λ (found : Found). found.regions) i
-        ∙ ap (λ n. cond (eqb n 0) (regions_of site.removed) no_regions) edge_passes
+    own_regions = ap (λ (found : Found). found.regions) own_found
 
     -- answers 9 to 12, by what the call takes
     pub edge_one : first_refusal (edge_tests chains site e f) ≡ 0
@@ -118,6 +124,11 @@ module _ (chains : Bool) (block : List ℕ) (e f : ℕ) (opens : open_answer blo
       ringed = record {
         ready = ready;
         measured = opens_measured block opens;
-        sound = subst SoundRing (sym own_site) (sound_site block e f edge_sound);
+        sound = ∣ subst SoundRing (sym own_site) (sound_site block e f edge_sound) ∣₁;
         agrees = marks_agree block opens;
       }
+
+-- the site of an edge in a block
+pub in_block_site : {block : List ℕ} {e f : ℕ} {closed : Bool} {ring : Ring} {edge : RingedEdge} → IsEdgeOf block e f closed ring edge
+    → site_of_edge edge ≡ site_in (coordinates_of block) (point_count block) block (row_count block) (min e f) (max e f)
+in_block_site is = rw (is.coordinates, is.count, is.table, is.n, is.a, is.b)

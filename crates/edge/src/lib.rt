@@ -3,24 +3,62 @@
 
 ghost use Rattle.std.specs.Prelude.{◌<◌, min, max, ◌≡◌};
 ghost use Rattle.answers.specs.Answers.{first_refusal, answer_of};
+ghost use Rattle.layout.specs.Layout.{point_count, row_count, coordinates_of};
 ghost use Rattle.block.specs.Opening.{open_answer};
 ghost use Rattle.calls.specs.Removing.{block_tests};
-ghost use Rattle.edge.specs.Steps.{edge_found, found_none};
+ghost use Rattle.edge.specs.Steps.{edge_found, Ringed};
 
-use answers::Answer;
-use layout::BLOCK_BYTES;
+use answers::Refusal;
+use layout::{BLOCK_BYTES, POINTS_AT};
 use ring::{Found, Ring};
-use rows::Regions;
+use rows::ROWS_AT;
+
+// An edge with its ring or chain, in a table that keeps the mesh rule and whose marks agree.
+#[derive(Clone, Copy)]
+pub struct RingedEdge<'a> {
+    pub coordinates: &'a [u8],
+    pub count: usize,
+    pub table: &'a [u8],
+    pub n: usize,
+    pub a: u8,
+    pub b: u8,
+    pub closed: bool,
+    pub ring: Ring,
+    ghost ringed: { Ringed coordinates.now count table.now n a b closed ring },
+}
+
+impl<'a> RingedEdge<'a> {
+    ghost use Rattle.edge.specs.Edges.{IsEdgeOf};
+
+    // The edge between e and f of a block that opens, its ends in order, with the ring or chain that was found round it.
+    pub fn in_block(block: &'a [u8], e: usize, f: usize, closed: bool, ring: Ring) -> RingedEdge<'a>
+        requires opens { open_answer block.now ≡ 0 }
+        requires ends { (e < 256) × (f < 256) }
+        requires ringed { Ringed (coordinates_of block.now) (point_count block.now) block.now (row_count block.now) (min e f) (max e f) closed ring }
+        ensures { IsEdgeOf block.now e f closed ring result }
+    {
+        RingedEdge {
+            coordinates: &block[POINTS_AT..ROWS_AT],
+            count: block[1] as usize,
+            table: block,
+            n: block[2] as usize,
+            a: smaller(e, f),
+            b: larger(e, f),
+            closed,
+            ring,
+        }
+    }
+}
 
 // Answers 1 to 8 of a call with a block and an output block: both lengths before anything in the block.
-pub fn blocks_answer(block: &[u8], out: &[u8]) -> Answer
+pub fn blocks_answer(block: &[u8], out: &[u8]) -> Result<(), Refusal>
     ensures { result ≡ answer_of (first_refusal (block_tests block.now out.now)) }
 {
     if block.len() != BLOCK_BYTES {
-        return Answer::Refused(answers::LENGTH);
+        return Err(Refusal::LENGTH);
     }
     if out.len() != BLOCK_BYTES {
-        return Answer::Refused(answers::LENGTH);
+        return Err(Refusal::LENGTH);
     }
     block::opening(block)
 }
@@ -30,10 +68,7 @@ pub fn smaller(e: usize, f: usize) -> u8
     requires { (e < 256) × (f < 256) }
     ensures { result ≡ min e f }
 {
-    if e < f {
-        return e as u8;
-    }
-    f as u8
+    e.min(f) as u8
 }
 
 // The larger end.
@@ -41,39 +76,24 @@ pub fn larger(e: usize, f: usize) -> u8
     requires { (e < 256) × (f < 256) }
     ensures { result ≡ max e f }
 {
-    if e < f {
-        return f as u8;
-    }
-    e as u8
+    e.max(f) as u8
 }
 
-// A refusal stands beside no ring and no rows.
-fn no_ring(answer: Answer) -> Found
-    ensures { result ≡ found_none answer }
-{
-    Found {
-        answer,
-        closed: false,
-        ring: Ring::EMPTY,
-        regions: Regions::One(0),
-    }
-}
-
-// Answers 9 to 13 in a block that opens and, with answer 0, the ring round the edge or, where chains are taken too, the chain, and the
-// regions of its rows.
-pub fn edge_at(block: &[u8], e: usize, f: usize, chains: bool) -> Found
+// In a block that opens, the ring round the edge or, where chains are taken too, the chain, and the regions of its rows; or one of the
+// answers 9 to 13.
+pub fn edge_at(block: &[u8], e: usize, f: usize, chains: bool) -> Result<Found, Refusal>
     requires { open_answer block.now ≡ 0 }
     ensures { result ≡ edge_found chains block.now e f }
 {
     let count = block[1] as usize;
     if count <= e {
-        return no_ring(Answer::Refused(answers::BAD_NUMBER));
+        return Err(Refusal::BAD_NUMBER);
     }
     if count <= f {
-        return no_ring(Answer::Refused(answers::BAD_NUMBER));
+        return Err(Refusal::BAD_NUMBER);
     }
     if e == f {
-        return no_ring(Answer::Refused(answers::BAD_NUMBER));
+        return Err(Refusal::BAD_NUMBER);
     }
     ring::find(
         block,

@@ -1,37 +1,29 @@
 // The ring round an edge of a block, and its apex by the table of its pieces.
 #![tactic(auto)]
 
-ghost use Rattle.std.specs.Prelude.{[], ◌≡◌};
-ghost use Rattle.ring.specs.Ring.{ring_with};
+ghost use Rattle.std.specs.Prelude.{◌≡◌};
 ghost use Rattle.edge_tables.specs.EdgeTables.{ring_at, top_apex};
 
-use answers::Answer;
 use layout::POINTS_AT;
 use ring::Ring;
 use rows::ROWS_AT;
-
-// No ring.
-fn no_ring() -> Ring
-    ensures { result ≡ ring_with [] }
-{
-    Ring::EMPTY
-}
 
 // The closed ring round the edge between the points e and f, if e < f; where there is none it has no points.
 pub fn ring_at(block: &[u8], e: usize, f: usize) -> Ring
     ensures { result ≡ ring_at block.now e f }
 {
     if f <= e {
-        return no_ring();
+        return Ring::EMPTY;
     }
-    let opened = block::opening(block);
-    let Answer::Done = opened else {
-        return no_ring();
+    let Ok(()) = block::opening(block) else {
+        return Ring::EMPTY;
     };
     if block[1] as usize <= f {
-        return no_ring();
+        return Ring::EMPTY;
     }
-    let found = ring::find(block, block[2] as usize, e as u8, f as u8, false);
+    let Ok(found) = ring::find(block, block[2] as usize, e as u8, f as u8, false) else {
+        return Ring::EMPTY;
+    };
     found.ring
 }
 
@@ -54,5 +46,5 @@ pub fn apex_at(block: &[u8], e: usize, f: usize) -> u64
         ring,
     );
     let at = cells::cell_at(1, pieces.m);
-    pieces.apexes[at] as u64
+    pieces.table.apexes[at] as u64
 }

@@ -1,15 +1,8 @@
 -- A summary and a page row as the elements of an array.
-use Rattle.std.specs.Prelude.{ℕ, cond, List, [], ◌∷◌, eqb, length, Float}
-use Rattle.score.specs.declared.WorstScore.{WorstScore}
-use Rattle.score.specs.declared.WorstScore.TheVariants.{Worst, NoRows}
-use Rattle.score.specs.declared.Octave.{Octave}
-use Rattle.score.specs.declared.Octave.TheVariants.{Exponent, NoUpright}
+use Rattle.std.specs.Prelude.{ℕ, cond, List, [], ◌∷◌, eqb, length, Float, Option, None, Some, option_map, unwrap_or, Result, Ok, Err}
+use Rattle.answers.specs.declared.Refusal.{Refusal}
 use Rattle.page.specs.declared.PageRow.{PageRow}
 use Rattle.summary.specs.declared.Summary.{Summary}
-use Rattle.calls.specs.declared.Summarised.{Summarised}
-use Rattle.calls.specs.declared.Summarised.TheVariants as Summarises
-use Rattle.calls.specs.declared.Removal.{Removal}
-use Rattle.calls.specs.declared.Removal.TheVariants as Removes
 
 -- 1 for an output of another length than it must have, before anything in the block
 abbrev pub sized : ℕ → ℕ → ℕ → ℕ
@@ -21,41 +14,26 @@ fitting must elements out = cond (eqb (length out) must) elements out
 
 -- ---- the summary: upright, flat, inverted, has_worst, worst, has_octave, octave
 
--- a patch with no rows has no worst score
-abbrev pub has_worst : WorstScore → ℕ
-has_worst (Worst score) = 1
-has_worst NoRows = 0
-
--- 0 where a mark
-abbrev pub worst_number : WorstScore → ℕ
-worst_number (Worst score) = score.value
-worst_number NoRows = 0
-
--- one with no upright row has no octave
-abbrev pub has_octave : Octave → ℕ
-has_octave (Exponent e) = 1
-has_octave NoUpright = 0
-
--- 0 where a mark
-abbrev pub octave_number : Octave → ℕ
-octave_number (Exponent e) = e
-octave_number NoUpright = 0
+-- a patch with no rows has no worst score, and one with no upright row has no octave
+abbrev pub has_value : {A : Type 0} → Option A → ℕ
+has_value (Some x) = 1
+has_value None = 0
 
 -- the elements of a summary
 abbrev pub summary_elements : ℕ
 summary_elements = 7
 
--- a summary, element by element
+-- a summary, element by element; a number that is not there is told as 0
 unfoldable pub summary_numbers : Summary → List ℕ
 summary_numbers summary =
     summary.upright ∷ summary.flat ∷ summary.inverted
-    ∷ has_worst summary.worst ∷ worst_number summary.worst
-    ∷ has_octave summary.octave ∷ octave_number summary.octave ∷ []
+    ∷ has_value summary.worst ∷ unwrap_or (option_map (λ score. score.value) summary.worst) 0
+    ∷ has_value summary.octave ∷ unwrap_or summary.octave 0 ∷ []
 
 -- with a summary each element is written; with a refusal they stay as they came
-abbrev pub summary_over : List ℕ → Summarised → List ℕ
-summary_over out (Summarises.Summary summary) = summary_numbers summary
-summary_over out (Summarises.Refused n) = out
+abbrev pub summary_over : List ℕ → Result Summary Refusal → List ℕ
+summary_over out (Ok summary) = summary_numbers summary
+summary_over out (Err refusal) = out
 
 -- ---- the page row: worst before, worst after
 
@@ -68,6 +46,6 @@ abbrev pub page_numbers : PageRow → List Float
 page_numbers page = page.before ∷ page.after ∷ []
 
 -- with a page row both elements are written; with a refusal they stay as they came
-abbrev pub page_over : List Float → Removal → List Float
-page_over row (Removes.Done page) = page_numbers page
-page_over row (Removes.Refused n) = row
+abbrev pub page_over : List Float → Result PageRow Refusal → List Float
+page_over row (Ok page) = page_numbers page
+page_over row (Err refusal) = row

@@ -71,13 +71,13 @@ module _ (site : Site) (apexes : List ℕ) where
 
 -- ---- a table that keeps the pieces of a ring
 
-module _ {site : Site} {table : Pieces} (keeps : KeepsTable site table) where
+module _ {site : Site} {pieces : Pieces} (keeps : KeepsTable site pieces) where
   -- its apexes lie between the ends of their pieces,
-  pub kept_between : Between table.apexes 1 (m site)
+  pub kept_between : Between pieces.table.apexes 1 (m site)
   kept_between =
       record {
-        high = λ l e a b c. (within l e b (get_or table.apexes (cell_at l e) 0) (keeps.apexes l e a b c)).0;
-        low = λ l e a b c. (within l e b (get_or table.apexes (cell_at l e) 0) (keeps.apexes l e a b c)).1;
+        high = λ l e a b c. (within l e b (get_or pieces.table.apexes (cell_at l e) 0) (keeps.apexes l e a b c)).0;
+        low = λ l e a b c. (within l e b (get_or pieces.table.apexes (cell_at l e) 0) (keeps.apexes l e a b c)).1;
       }
     where
       own : (l e k : ℕ) (b : Bool) → cond b none (apex site l e) ≡ some k → apex site l e ≡ some k
@@ -92,13 +92,13 @@ module _ {site : Site} {table : Pieces} (keeps : KeepsTable site table) where
           (between.1, λ n. between.0)
 
   -- its tree is the chosen one, if nothing bars the chain,
-  pub kept_tree : barred site ≡ false → tree_in table.apexes 1 (m site) ≡ chosen site
+  pub kept_tree : barred site ≡ false → tree_in pieces.table.apexes 1 (m site) ≡ chosen site
   kept_tree free =
-      own_tree site table.apexes 1 (m site) (λ l e a b c.
+      own_tree site pieces.table.apexes 1 (m site) (λ l e a b c.
       keeps.apexes l e a b c ∙ ap (λ b. cond b none (apex site l e)) (open_piece site free l e))
 
   -- and spans the ring, if there is a best worst
-  pub kept_spans : 3 ≤ m site → {q : Quality} → kept_best table 1 (m site) ≡ some q → span (chosen site) ≡ m site - 1
+  pub kept_spans : 3 ≤ m site → {q : Quality} → kept_best pieces 1 (m site) ≡ some q → span (chosen site) ≡ m site - 1
   kept_spans long e =
       let best = (kept_best_lem keeps 1 (m site) (omega arith) (omega arith) (omega arith) e).1 in
       (chosen_optimal site 1 (m site) best.by (omega arith) best.spans best.admissible).spans

@@ -1,6 +1,6 @@
 -- A face in a table: what one pass keeps, one row more at a time; and, under the mesh rule, a's row with its apex and the face.
 -- A number at the end is the smallest, or the smallest is what it was; the first row of the smallest apex goes with it.
-use Prim.Native.Nat.{ℕ, suc, ◌+◌, ◌≤◌, ◌<◌, min, max}
+use Prim.Native.Nat.{ℕ, ◌+◌, ◌<◌, min, max}
 use mathlib.Core.Bool.{Bool, true, false, cond, not}
 use mathlib.Core.List.Memᴰ
 use mathlib.Core.List.{List, [], ◌∷◌, ◌++◌, map, foldr, append-nil, Memᴰ, map-append}
@@ -9,9 +9,10 @@ use mathlib.Core.Option.{get_or}
 use mathlib.Core.Path.{◌≡◌, refl, sym, ap, ◌∙◌, subst}
 use native.Mathlib.Numerals.{add-one}
 use native.Mathlib.Omega.{arith}
-use borrow.Author.Tests.{ne_eqb, ltb-true, ltb-false, eq-eqb}
+use borrow.Author.Tests.{ne_eqb, ltb-true, ltb-false, eq-eqb, eqb-true, eqb-false}
 use lib.Dec.{T, eqb, ltb, eqb→eq, T_not, not_T}
 use lib.ListN.{length, length-append, length-map}
+use Rattle.std.specs.Prelude.{Option, Some, None, IfSome}
 use Rattle.lists.specs.Lists.{every, any, those, first, first_or, has, different}
 use Rattle.lists.proofs.Tests.{and_r, and_i, either, no_is, eq_test}
 use Rattle.lists.proofs.Lists.{every_at, any_i, any_e, those_e, those_append, those_split, first_front, first_behind, first_found}
@@ -29,7 +30,7 @@ use Rattle.links.specs.Steps.{LinkedRow}
 use Rattle.walk.proofs.TheSmallest.{smallest_in, smallest_le}
 use Rattle.face.specs.declared.Sharing.{Sharing}
 use Rattle.calls.specs.Flipping.{apex_over, Pair, pair_of}
-use Rattle.face.specs.Steps.{sharing_in, with_row}
+use Rattle.face.specs.Steps.{sharing, sharing_in, with_row}
 
 -- ---- one more at the end
 
@@ -92,9 +93,9 @@ module _ (apex : Row → ℕ) (r : Row) (rs : List Row) (row : Row) where
   high_more : max (foldr max 0 (map apex rows)) (apex row) ≡ foldr max 0 (map apex (rows ++ row ∷ []))
   high_more = sym (ap (foldr max 0) (map-append apex rows (row ∷ [])) ∙ max_more (apex row) (map apex rows))
 
-  noted_next : with_row (noted apex rows) row (apex row) ≡ noted apex (rows ++ row ∷ [])
+  noted_next : with_row (Some (noted apex rows)) row (apex row) ≡ noted apex (rows ++ row ∷ [])
   unfolding with_row
-  noted_next = rw (ne_eqb (suc (length rs)) 0 (λ e. omega arith)) (go (ltb (apex row) low) refl)
+  noted_next = go (ltb (apex row) low) refl
     where
       n_more : length rows + 1 ≡ length (rows ++ row ∷ [])
       n_more = omega (arith, length-append rows (row ∷ []))
@@ -130,22 +131,28 @@ module _ (apex : Row → ℕ) (r : Row) (rs : List Row) (row : Row) where
           let is : smallest (map apex (rows ++ row ∷ [])) ≡ low = low_more ∙ omega arith in
           same_sharing n_more (sym is) high_more (sym (ap (λ a. found a (rows ++ row ∷ [])) is ∙ row_above)) regions_next
 
+-- what is noted, if there is a row
+abbrev noted_any : (Row → ℕ) → List Row → Option Sharing
+noted_any apex rows = cond (eqb (length rows) 0) None (Some (noted apex rows))
+
 -- one row more
-noted_more : (apex : Row → ℕ) (rows : List Row) (row : Row) → with_row (noted apex rows) row (apex row) ≡ noted apex (rows ++ row ∷ [])
+noted_more : (apex : Row → ℕ) (rows : List Row) (row : Row) → Some (with_row (noted_any apex rows) row (apex row)) ≡ noted_any apex (rows ++ row ∷ [])
 unfolding with_row first smallest
 noted_more apex [] row =
     let high : apex row ≡ max (apex row) 0 = omega arith in
-    same_sharing refl refl high (rw (eq-eqb (apex row) (apex row) refl)) (sym (one_met row))
-noted_more apex (r ∷ rs) row = noted_next apex r rs row
+    ap Some (same_sharing refl refl high (rw (eq-eqb (apex row) (apex row) refl)) (sym (one_met row)))
+noted_more apex (r ∷ rs) row =
+    rw (ne_eqb (length (r ∷ rs)) 0 (λ e. omega arith), ne_eqb (length ((r ∷ rs) ++ row ∷ [])) 0 (λ e. omega arith))
+    (ap Some (noted_next apex r rs row))
 
 module _ (face : List ℕ) (rows : List Row) (row : Row) where
   -- a row that holds the face
-  share_held : holds_face face row ≡ true → with_row (sharing_in rows face) row (apex_over face row) ≡ sharing_in (rows ++ row ∷ []) face
+  share_held : holds_face face row ≡ true → Some (with_row (sharing_in rows face) row (apex_over face row)) ≡ sharing_in (rows ++ row ∷ []) face
   unfolding pair_of those
   share_held e =
       let more : those (holds_face face) (rows ++ row ∷ []) ≡ those (holds_face face) rows ++ row ∷ [] =
       rw (those_append (holds_face face) rows (row ∷ []), e) in
-      noted_more (apex_over face) (those (holds_face face) rows) row ∙ ap (noted (apex_over face)) (sym more)
+      noted_more (apex_over face) (those (holds_face face) rows) row ∙ ap (noted_any (apex_over face)) (sym more)
 
   -- any other row
   share_other : holds_face face row ≡ false → sharing_in rows face ≡ sharing_in (rows ++ row ∷ []) face
@@ -153,23 +160,47 @@ module _ (face : List ℕ) (rows : List Row) (row : Row) where
   share_other e =
       let same : those (holds_face face) (rows ++ row ∷ []) ≡ those (holds_face face) rows =
       rw (those_append (holds_face face) rows (row ∷ []), e) (append-nil _) in
-      ap (noted (apex_over face)) (sym same)
+      ap (noted_any (apex_over face)) (sym same)
 
 -- no more than there are rows
-pub share_few : (face : List ℕ) (rows : List Row) → (sharing_in rows face).n ≤ length rows
+pub share_few : (face : List ℕ) (rows : List Row) (most : ℕ) → length rows < most → IfSome (sharing_in rows face) (λ found. found.n < most)
 unfolding pair_of
-share_few face rows = omega (arith, those_split (holds_face face) rows)
+share_few face rows most h = go (eqb (length (those (holds_face face) rows)) 0)
+  where
+    go : (b : Bool) → IfSome (cond b None (Some (noted (apex_over face) (those (holds_face face) rows)))) (λ found. found.n < most)
+    go true = tt
+    go false = omega (arith, those_split (holds_face face) rows)
+
+-- whether a row holds the face, and what is then kept
+module _ (rows : List Row) (face : List ℕ) where
+  abbrev whole : Pair
+  whole = pair_of (record { points = []; rows = rows }) face
+
+  pub none_shares : None ≡ sharing_in rows face → length whole.removed ≡ 0
+  none_shares e = go (eqb (length whole.removed) 0) refl e
+    where
+      go : (b : Bool) → eqb (length whole.removed) 0 ≡ b → None ≡ cond b None (Some (sharing whole)) → length whole.removed ≡ 0
+      go true is e = eqb-true _ _ is
+      go false is e = cc
+
+  pub some_share : (found : Sharing) → Some found ≡ sharing_in rows face → (length whole.removed ≡ 0 → ⊥) × (found ≡ sharing whole)
+  some_share found e = go (eqb (length whole.removed) 0) refl e
+    where
+      go : (b : Bool) → eqb (length whole.removed) 0 ≡ b → Some found ≡ cond b None (Some (sharing whole))
+          → (length whole.removed ≡ 0 → ⊥) × (found ≡ sharing whole)
+      go true is e = cc
+      go false is e = (eqb-false _ _ is, cc)
 
 -- one row more of a table
-module _ (face table : List ℕ) (i : ℕ) (found : Sharing) (so_far : found ≡ sharing_in (rows_in table i) face) (row : Row)
+module _ (face table : List ℕ) (i : ℕ) (found : Option Sharing) (so_far : found ≡ sharing_in (rows_in table i) face) (row : Row)
     (row_is : row ≡ row_in table i)
     (test : Bool) (test-is : test ≡ holds_face face row) where
-  pub held_next : test ≡ true → (apex : ℕ) (after : Sharing) → apex ≡ apex_over face row → after ≡ with_row found row apex
+  pub held_next : test ≡ true → (apex : ℕ) (after : Option Sharing) → apex ≡ apex_over face row → after ≡ Some (with_row found row apex)
       → after ≡ sharing_in (rows_in table (i + 1)) face
   held_next e apex after a f =
       rw (add-one i, rows_more table i, ← row_is) (f ∙ rw (so_far, a) (share_held face (rows_in table i) row (sym test-is ∙ e)))
 
-  pub other_next : test ≡ false → (after : Sharing) → after ≡ found → after ≡ sharing_in (rows_in table (i + 1)) face
+  pub other_next : test ≡ false → (after : Option Sharing) → after ≡ found → after ≡ sharing_in (rows_in table (i + 1)) face
   other_next e after f =
       rw (add-one i, rows_more table i, ← row_is) (f ∙ (so_far ∙ share_other face (rows_in table i) row (sym test-is ∙ e)))
 

@@ -9,7 +9,7 @@ use lib.ListN.{length}
 use Rattle.lists.specs.Lists.{every, different}
 use Rattle.lists.proofs.Tests.{and_l, is_yes}
 use Rattle.lists.proofs.Lists.{every_at}
-use Rattle.answers.specs.declared.Answer.TheVariants.{Refused}
+use Rattle.std.specs.Prelude.{Err}
 use Rattle.layout.specs.Layout.{block_bytes, point_count, fields_of}
 use Rattle.answers.specs.Answers.{first_refusal}
 use Rattle.block.specs.Opening.{open_answer}
@@ -26,7 +26,7 @@ module _ (block out : List ℕ) (x y z : ℕ) (opens : open_answer block ≡ 0) 
   wrong_counted = rw points_counted (sym wrong-is)
 
   -- 9: a number of the face is wrong
-  pub is_9 : wrong ≡ true → Told block out (x ∷ y ∷ z ∷ []) (Refused 9) out
+  pub is_9 : wrong ≡ true → Told block out (x ∷ y ∷ z ∷ []) (Err (record { number = 9 })) out
   unfolding flip23_tests first_refusal
   is_9 a = flip_refused block out (x ∷ y ∷ z ∷ []) 8 (flip23_left block out x y z opens output ∙ rw (wrong_counted ∙ a))
 

@@ -8,6 +8,7 @@ use native.Mathlib.Omega.{arith}
 use borrow.Author.Tests.{eq-eqb, ne_eqb, lt-ltb, le-ltb}
 use lib.Dec.{T, eqb, ltb}
 use lib.ListN.{length, take, drop, set, replicate, length-append, length-map, length-replicate, drop_of_length-le}
+use Rattle.std.specs.Prelude.{Some, None}
 use Rattle.lists.specs.Lists.{every, any, those, numbers_from}
 use Rattle.lists.proofs.Tests.{and_l, and_r}
 use Rattle.lists.proofs.Lists.{those_split, those_e}
@@ -25,7 +26,7 @@ use Rattle.mesh.specs.Mesh.{keeps_mesh_rule}
 use Rattle.marking.specs.Marking.{marks_over, mark_goes, dress_by, new_mark, dressed}
 use Rattle.dressing.proofs.MarksThatGo.{goes_among}
 use Rattle.dressing.proofs.NewRowsDressed.{Plain, room_plain, room_dressed, written_read, dressed_in_place}
-use Rattle.answers.specs.declared.Answer.TheVariants.{Done, Refused}
+use Rattle.std.specs.Prelude.{Ok, Err}
 use Rattle.layout.specs.Layout.{Patch, block_bytes, body_bytes, max_rows, point_count, row_count, fields_of, sealed, bytes_of}
 use Rattle.layout.specs.Within.{is_byte}
 use Rattle.answers.specs.Answers.{first_refusal}
@@ -46,7 +47,7 @@ use Rattle.face.specs.Steps.{sharing, sharing_in, three_of}
 use Rattle.face_flip.specs.Steps.{RightFace}
 use Rattle.calls.proofs.CallTests.{flip23_left}
 use Rattle.calls.proofs.FlipTold.{Told, flip_refused, flip_done}
-use Rattle.face.proofs.FaceShared.{row_linked}
+use Rattle.face.proofs.FaceShared.{none_shares, some_share, row_linked}
 
 -- the scratch block, as it comes
 abbrev blank : List ℕ
@@ -83,8 +84,7 @@ few_kept block x y z opens =
     let rows = rows_in block (row_count block) in
     omega (arith, those_split (stays x y z) rows, rows_length block (row_count block), few_rows block opens)
 
-module _ (block out : List ℕ) (x y z : ℕ) (given : RightFace block out x y z) (found : Sharing)
-    (found-is : found ≡ sharing_in (rows_in block (row_count block)) (x ∷ y ∷ z ∷ [])) where
+module _ (block out : List ℕ) (x y z : ℕ) (given : RightFace block out x y z) where
   abbrev face : List ℕ
   face = x ∷ y ∷ z ∷ []
 
@@ -100,24 +100,28 @@ module _ (block out : List ℕ) (x y z : ℕ) (given : RightFace block out x y z
   answer : flip_answer block out face ≡ first_refusal (flip23_tests patch face)
   answer = flip23_left block out x y z given.opens given.output
 
-  pair_is : found ≡ sharing pair
-  unfolding pair_of fields_of
-  pair_is = found-is
-
-  n_is : found.n ≡ length pair.removed
-  n_is = ap (λ s. s.n) pair_is
-
   -- 10: no row holds the face
-  pub is_10 : found.n ≡ 0 → Told block out face (Refused 10) out
-  unfolding flip23_tests first_refusal
-  is_10 a = flip_refused block out face 9 (answer ∙ rw (given.numbers, eq-eqb (length pair.removed) 0 (sym n_is ∙ a)))
+  pub is_10 : None ≡ sharing_in rows face → Told block out face (Err (record { number = 10 })) out
+  unfolding flip23_tests first_refusal pair_of fields_of
+  is_10 a = flip_refused block out face 9 (answer ∙ rw (given.numbers, eq-eqb (length pair.removed) 0 (none_shares rows face a)))
 
-  module _ (a10 : found.n ≡ 0 → ⊥) where
+  module _ (found : Sharing) (found-is : Some found ≡ sharing_in rows face) where
+    some_row : length pair.removed ≡ 0 → ⊥
+    unfolding pair_of fields_of
+    some_row = (some_share rows face found found-is).0
+
+    pair_is : found ≡ sharing pair
+    unfolding pair_of fields_of
+    pair_is = (some_share rows face found found-is).1
+
+    n_is : found.n ≡ length pair.removed
+    n_is = ap (λ s. s.n) pair_is
+
     none_10 : eqb (length pair.removed) 0 ≡ false
-    none_10 = ne_eqb (length pair.removed) 0 (λ e. a10 (n_is ∙ e))
+    none_10 = ne_eqb (length pair.removed) 0 some_row
 
     -- 11: only one row
-    pub is_11 : found.n ≡ 1 → Told block out face (Refused 11) out
+    pub is_11 : found.n ≡ 1 → Told block out face (Err (record { number = 11 })) out
     unfolding flip23_tests first_refusal
     is_11 a = flip_refused block out face 10 (answer ∙ rw (given.numbers, none_10, eq-eqb (length pair.removed) 1 (sym n_is ∙ a)))
 
@@ -126,7 +130,7 @@ module _ (block out : List ℕ) (x y z : ℕ) (given : RightFace block out x y z
       none_11 = ne_eqb (length pair.removed) 1 (λ e. a11 (n_is ∙ e))
 
       -- 18: both apexes are one point
-      pub is_18 : found.a ≡ found.b → Told block out face (Refused 18) out
+      pub is_18 : found.a ≡ found.b → Told block out face (Err (record { number = 18 })) out
       unfolding flip23_tests first_refusal
       is_18 a = flip_refused block out face 17 (answer
           ∙ rw (given.numbers, none_10, none_11, eq-eqb pair.a pair.b (sym (ap (λ s. s.a) pair_is) ∙ (a ∙ ap (λ s. s.b) pair_is))))
@@ -139,7 +143,7 @@ module _ (block out : List ℕ) (x y z : ℕ) (given : RightFace block out x y z
         own_regions = ap (λ s. s.regions) pair_is
 
         -- 20: the two rows have different regions
-        pub is_20 : found.regions ≡ Several → Told block out face (Refused 20) out
+        pub is_20 : found.regions ≡ Several → Told block out face (Err (record { number = 20 })) out
         unfolding flip23_tests first_refusal
         is_20 several = flip_refused block out face 19 (answer
             ∙ rw (given.numbers, none_10, none_11, none_18, told_several pair.removed (sym own_regions ∙ several)))
@@ -157,7 +161,7 @@ module _ (block out : List ℕ) (x y z : ℕ) (given : RightFace block out x y z
             lost_is = sym (told_is ∙ goes_among face rows)
 
             -- 23: the face is marked
-            pub is_23 : told ≡ true → Told block out face (Refused 23) out
+            pub is_23 : told ≡ true → Told block out face (Err (record { number = 23 })) out
             unfolding flip23_tests first_refusal
             is_23 a = flip_refused block out face 22 (answer ∙ rw (given.numbers, none_10, none_11, none_18, none_20, lost_is ∙ a))
 
@@ -185,8 +189,8 @@ module _ (block out : List ℕ) (x y z : ℕ) (given : RightFace block out x y z
               pub found_linked : (v : ℕ) → v ≡ u → LinkedRow found.a v found.row
               unfolding pair_of fields_of
               found_linked v e =
-                  rw e (subst (λ (s : Sharing). LinkedRow s.a u s.row) (sym found-is)
-                  (row_linked (point_count block) rows x y z (rule_kept block given.opens) (λ e. a10 (ap (λ s. s.n) found-is ∙ e))))
+                  rw e (subst (λ (s : Sharing). LinkedRow s.a u s.row) (sym pair_is)
+                  (row_linked (point_count block) rows x y z (rule_kept block given.opens) some_row))
 
               removed_are : those (holds_face face) rows ≡ pair.removed
               unfolding pair_of fields_of
@@ -200,8 +204,8 @@ module _ (block out : List ℕ) (x y z : ℕ) (given : RightFace block out x y z
               rows_after_lem : (patch_after23 patch face).rows ≡ after
               unfolding patch_after23 pair_of fields_of
               rows_after_lem =
-                  let new = three_rows_lem (point_count block) rows x y z (rule_kept block given.opens) (λ e. a10 (ap (λ s. s.n) found-is ∙ e)) in
-                  rw (face_staying x y z rows, found-is, own_region, new)
+                  let new = three_rows_lem (point_count block) rows x y z (rule_kept block given.opens) some_row in
+                  rw (face_staying x y z rows, pair_is, own_region, new)
 
               patch_whole : patch_with patch.points (patch_after23 patch face).rows ≡ patch_after23 patch face
               unfolding patch_after23
@@ -211,7 +215,7 @@ module _ (block out : List ℕ) (x y z : ℕ) (given : RightFace block out x y z
               size_after = omega (arith, k-is, length-append (staying x y z rows) made, length-map three (dress_by (new_mark pair.removed pair.kept)))
 
               -- 14: rows afterwards would be over 60
-              pub is_14 : max_rows < k + 3 → Told block out face (Refused 14) out
+              pub is_14 : max_rows < k + 3 → Told block out face (Err (record { number = 14 })) out
               unfolding flip23_tests first_refusal
               is_14 a =
                   let over = lt-ltb max_rows (length after) (omega (arith, size_after)) in
@@ -298,7 +302,7 @@ module _ (block out : List ℕ) (x y z : ℕ) (given : RightFace block out x y z
                     few = le-ltb max_rows (length after) (omega (arith, size_after))
 
                     -- 15: the table afterwards would break the mesh rule
-                    pub is_15 : test ≡ false → Told block out face (Refused 15) out
+                    pub is_15 : test ≡ false → Told block out face (Err (record { number = 15 })) out
                     unfolding flip23_tests first_refusal
                     is_15 a = flip_refused block out face 14 (answer
                         ∙ rw (given.numbers, none_10, none_11, none_18, none_20, none_23, rows_after_lem, few, test_after ∙ a))
@@ -306,7 +310,7 @@ module _ (block out : List ℕ) (x y z : ℕ) (given : RightFace block out x y z
                     -- done
                     pub is_0 : test ≡ true → T (every is_byte block) → (done : List ℕ) → done ≡ sealed (take body_bytes (set table 2 (k + 3)))
                         → (written : List ℕ) → written ≡ done ++ drop (length done) out
-                        → Told block out face Done written
+                        → Told block out face (Ok tt) written
                     unfolding flip23_tests patch_flipped first_refusal
                     is_0 a are done d written w =
                         let zero_is : flip_answer block out face ≡ 0 = answer

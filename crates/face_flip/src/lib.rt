@@ -8,59 +8,58 @@ ghost use Rattle.block.specs.Opening.{open_answer};
 ghost use Rattle.calls.specs.Flipping.{flip_answer, flip_bytes};
 ghost use Rattle.face_flip.specs.Steps.{RightFace};
 
-use answers::Answer;
+use answers::Refusal;
 use face::{face_wrong, least, put_three, share};
 use layout::{BLOCK_BYTES, MAX_ROWS};
 use rows::Regions;
 
 // The flip of a face with right numbers: writes the block afterwards, or refuses and leaves every output byte.
-fn flip_right(block: &[u8], x: u8, y: u8, z: u8, out: &mut [u8]) -> Answer
+fn flip_right(block: &[u8], x: u8, y: u8, z: u8, out: &mut [u8]) -> Result<(), Refusal>
     requires { RightFace block.now out.old x y z }
     ensures answer { result ≡ answer_of (flip_answer block.now out.old (x ∷ y ∷ z ∷ [])) }
     ensures bytes { out.new ≡ flip_bytes block.now out.old (x ∷ y ∷ z ∷ []) }
 {
     let n = block[2] as usize;
-    let found = share(block, n, x, y, z);
-    if found.n == 0 {
-        return Answer::Refused(answers::NOT_HELD);
-    }
+    let Some(found) = share(block, n, x, y, z) else {
+        return Err(Refusal::NOT_HELD);
+    };
     if found.n == 1 {
-        return Answer::Refused(answers::NOT_CLOSED);
+        return Err(Refusal::NOT_CLOSED);
     }
     if found.a == found.b {
-        return Answer::Refused(answers::ONE_APEX);
+        return Err(Refusal::ONE_APEX);
     }
     let regions = found.regions;
     let Regions::One(region) = regions else {
-        return Answer::Refused(answers::TWO_REGIONS);
+        return Err(Refusal::TWO_REGIONS);
     };
     if dressing::mark_goes(block, n, x, y, z) {
-        return Answer::Refused(answers::MARK_GOES);
+        return Err(Refusal::MARK_GOES);
     }
     let mut after = [0u8; BLOCK_BYTES];
     output::begin(block, &mut after);
     let kept = output::keep_others(block, n, x, y, z, &mut after);
     if MAX_ROWS < kept + 3 {
-        return Answer::Refused(answers::NO_ROOM);
+        return Err(Refusal::NO_ROOM);
     }
     put_three(&mut after, kept, found, region, least(x, y, z));
     dressing::dress(block, n, x, y, z, &mut after, kept, kept + 3);
     if !keys::keeps_mesh_rule(&after, kept + 3, block[1] as usize) {
-        return Answer::Refused(answers::BLOCKED);
+        return Err(Refusal::BLOCKED);
     }
     output::finish(&mut after, kept + 3);
     layout::copy(&after, out);
-    Answer::Done
+    Ok(())
 }
 
 // The flip of the face x, y, z, given in any order: writes the block afterwards, or refuses and leaves every output byte.
-pub fn flip_face(block: &[u8], x: usize, y: usize, z: usize, out: &mut [u8]) -> Answer
+pub fn flip_face(block: &[u8], x: usize, y: usize, z: usize, out: &mut [u8]) -> Result<(), Refusal>
     requires { (open_answer block.now ≡ 0) × (length out.old ≡ block_bytes) }
     ensures answer { result ≡ answer_of (flip_answer block.now out.old (x ∷ y ∷ z ∷ [])) }
     ensures bytes { out.new ≡ flip_bytes block.now out.old (x ∷ y ∷ z ∷ []) }
 {
     if face_wrong(block[1] as usize, x, y, z) {
-        return Answer::Refused(answers::BAD_NUMBER);
+        return Err(Refusal::BAD_NUMBER);
     }
     flip_right(block, x as u8, y as u8, z as u8, out)
 }

@@ -1,9 +1,7 @@
 -- Requirement §13: the twelve facts as one computed table, and the printout of block A.
-use Rattle.std.specs.Prelude.{ℕ, Bool, false, ◌&&◌, List, [], ◌∷◌, ◌++◌, map, T, eqb, pos, length, take, drop, replicate}
+use Rattle.std.specs.Prelude.{ℕ, Bool, false, ◌&&◌, List, [], ◌∷◌, ◌++◌, map, T, eqb, pos, length, take, drop, replicate, Option, None, Some}
 use Rattle.lists.specs.Lists.{every, same}
 use Rattle.volume.specs.declared.Point.{Point}
-use Rattle.score.specs.declared.Octave.{Octave}
-use Rattle.score.specs.declared.Octave.TheVariants.{Exponent, NoUpright}
 use Rattle.volume.specs.Volume.{same_z}
 use Rattle.score.specs.Score.{score_of, badness, added, total_badness, octave}
 use Rattle.rows.specs.declared.Row.{Row}
@@ -114,9 +112,9 @@ abbrev badnesses : Patch → List ℕ → Bool
 badnesses patch expected = same eqb (map (λ q. added (badness q)) (qualities patch)) expected
 
 -- the octave is n
-abbrev is_octave : Octave → ℕ → Bool
-is_octave (Exponent e) n = eqb e n
-is_octave NoUpright n = false
+abbrev is_octave : Option ℕ → ℕ → Bool
+is_octave (Some e) n = eqb e n
+is_octave None n = false
 
 -- ---- the table
 

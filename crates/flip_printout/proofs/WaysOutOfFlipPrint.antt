@@ -6,10 +6,10 @@ use mathlib.Core.Path.{◌≡◌, sym, ap, ap₂, ◌∙◌}
 use native.Mathlib.Omega.{arith}
 use lib.ListN.{length, take, drop, replicate, length-append, length-take}
 use lib.Seq.{take-length, take-append_seam, take-take}
-use Rattle.answers.specs.declared.Answer.{Answer}
-use Rattle.answers.specs.declared.Answer.TheVariants.{Done, Refused}
+use Rattle.std.specs.Prelude.{Ok, Err}
+use Rattle.answers.specs.declared.Refusal.{Refusal}
 use Rattle.answers.specs.Answers.{answer_of, number_of}
-use Rattle.answers.proofs.Refusals.{number_of_lem, answer_done, answer_refused}
+use Rattle.answers.proofs.Refusals.{number_of_lem, given_done, given_refused}
 use Rattle.layout.specs.Layout.{block_bytes}
 use Rattle.calls.specs.Flipping.{flip_answer, flip_bytes}
 use Rattle.input.specs.declared.Numbers.{Numbers}
@@ -50,22 +50,22 @@ module _ (input : List ℕ) (numbers : Numbers) (is : numbers ≡ numbers_of inp
 
 -- ---- what the call gives
 
-module _ (input block numbers : List ℕ) (tell : flip_printed block numbers ≡ flip_printout input) (answer : Answer)
-    (gives : answer ≡ answer_of (flip_answer block (replicate block_bytes 0) numbers)) where
+module _ (input block numbers : List ℕ) (tell : flip_printed block numbers ≡ flip_printout input) where
   abbrev out : List ℕ
   out = replicate block_bytes 0
 
   -- a refusal
-  pub refusal : {n k : ℕ} → answer ≡ Refused n → k ≡ number_of answer → {text : Text} → Whole (answer_line k) text
-      → Whole (flip_printout input) text
-  refusal {n} h k =
-      let other = answer_refused (flip_answer block out numbers) n (sym gives ∙ h) in
-      let number = k ∙ (ap number_of gives ∙ number_of_lem (flip_answer block out numbers)) in
+  pub refusal : {refusal : Refusal} → Err refusal ≡ answer_of (flip_answer block out numbers) → {k : ℕ} → k ≡ refusal.number → {text : Text}
+      → Whole (answer_line k) text → Whole (flip_printout input) text
+  refusal {refusal} gives told =
+      let other = given_refused (flip_answer block out numbers) tt refusal (sym gives) in
+      let number = told ∙ ap number_of gives ∙ number_of_lem (flip_answer block out numbers) tt in
       whole_as (sym tell ∙ (printed_refusal block numbers other ∙ ap answer_line (sym number)))
 
-  module _ (done : answer ≡ Done) (n : ℕ) (count : n ≡ length numbers) (output : List ℕ) (written : output ≡ flip_bytes block out numbers) where
+  module _ (gives : Ok tt ≡ answer_of (flip_answer block out numbers)) (n : ℕ) (count : n ≡ length numbers) (output : List ℕ)
+      (written : output ≡ flip_bytes block out numbers) where
     zero : flip_answer block out numbers ≡ 0
-    zero = answer_done (flip_answer block out numbers) (sym gives ∙ done)
+    zero = given_done (flip_answer block out numbers) tt tt (sym gives)
 
     -- what a report asks for
     pub asks : (n ≤ 3) × Written block output n

@@ -5,7 +5,6 @@ ghost use Rattle.std.specs.Prelude.{◌≤◌, ◌≡◌, length};
 ghost use Rattle.flip_printout.specs.FlipPrintout.{flip_printout};
 ghost use Rattle.text.specs.Texts.{text_bytes, text_of};
 
-use answers::Answer;
 use layout::BLOCK_BYTES;
 use report::answered;
 use text::Text;
@@ -21,9 +20,9 @@ pub fn print(input: &[u8]) -> Text
     let n = numbers.n;
     let all = numbers.all;
     let mut output = [0u8; BLOCK_BYTES];
-    let answer = patch::flip(block, &all[..n], &mut output);
-    let Answer::Done = answer else {
-        return answered(answer.number());
+    let given = patch::flip(block, &all[..n], &mut output);
+    let Ok(()) = given else {
+        return answered(answers::number(&given));
     };
     report::flipped(block, n, &output)
 }

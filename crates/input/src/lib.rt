@@ -13,6 +13,7 @@ const INPUT_BYTES: usize = BLOCK_BYTES + 2;
 const MOST_NUMBERS: usize = 4;
 
 // The first n of them; those behind are zero.
+// Kept: no heap, and no slice of the input, whose numbers are bytes: `patch::flip` takes a slice of usize, so they need room of their own.
 #[derive(Clone, Copy)]
 pub struct Numbers {
     pub n: usize,
@@ -26,38 +27,25 @@ pub fn right_length(input: &[u8]) -> bool
     input.len() == INPUT_BYTES
 }
 
-// The smaller of two numbers.
-fn smaller(x: usize, y: usize) -> usize
-    ensures { result ≡ min x y }
-{
-    if y < x {
-        return y;
-    }
-    x
-}
-
 // How many bytes of an input are the block's: all that a block has, or as many as there are.
 pub fn block_length(input: &[u8]) -> usize
     ensures { result ≡ min block_bytes (length input.now) }
 {
-    smaller(BLOCK_BYTES, input.len())
+    BLOCK_BYTES.min(input.len())
 }
 
 // A byte of an input, or 0 where it has none.
 fn number_at(input: &[u8], i: usize) -> usize
     ensures { result ≡ byte input.now i }
 {
-    if i < input.len() {
-        return input[i] as usize;
-    }
-    0
+    input.get(i).map_or(0, |byte| *byte as usize)
 }
 
 // The numbers behind the block.
 pub fn numbers_behind(input: &[u8]) -> Numbers
     ensures { result ≡ numbers_of input.now }
 {
-    let n = smaller(MOST_NUMBERS, input.len() - block_length(input));
+    let n = MOST_NUMBERS.min(input.len() - block_length(input));
     let first = number_at(input, BLOCK_BYTES);
     let second = number_at(input, BLOCK_BYTES + 1);
     let third = number_at(input, BLOCK_BYTES + 2);

@@ -13,10 +13,10 @@ use Rattle.lists.proofs.Lists.{every_at}
 use Rattle.lists.proofs.Numbers.{has_e}
 use Rattle.layout.specs.Layout.{fields_of}
 use Rattle.layout.specs.Within.{is_byte}
-use Rattle.answers.specs.Answers.{first_refusal}
+use Rattle.answers.specs.Answers.{first_refusal, number_of}
 use Rattle.block.specs.Opening.{open_answer, seal_answer}
 use Rattle.display.specs.Display.{shown_answer}
-use Rattle.calls.specs.Summarising.{summary_gives, summary_number}
+use Rattle.calls.specs.Summarising.{summary_gives}
 use Rattle.calls.specs.Removing.{block_tests, remove_answer}
 use Rattle.calls.specs.Flipping.{flip_answer}
 use Rattle.calls.proofs.CallTests.{miscounted}
@@ -62,7 +62,7 @@ unfolding wrong_blocks open_cases every any
 open_all = tt
 
 abbrev summarised : List ℕ → ℕ
-summarised block = summary_number (summary_gives block)
+summarised block = number_of (summary_gives block)
 
 summary_get : T (every (gets (λ block. block) summarised) open_cases)
 unfolding wrong_blocks open_cases summary_gives block_a_with block_a load_points glued_under half_glued capped_a definitions

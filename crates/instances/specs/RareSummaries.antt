@@ -1,11 +1,8 @@
 -- Summaries with what is rare, computed: an inverted row, and both marks.
-use Rattle.std.specs.Prelude.{List, [], ◌∷◌, ◌≡◌, refl}
-use Rattle.score.specs.declared.WorstScore.TheVariants.{Worst, NoRows}
-use Rattle.score.specs.declared.Octave.TheVariants.{Exponent, NoUpright}
+use Rattle.std.specs.Prelude.{List, [], ◌∷◌, ◌≡◌, refl, Ok, None, Some}
 use Rattle.rows.specs.declared.Row.{Row}
 use Rattle.layout.specs.Layout.{Patch, bytes_of}
 use Rattle.block.specs.Opening.{open_answer}
-use Rattle.calls.specs.declared.Summarised.TheVariants.{Summary as Summed}
 use Rattle.calls.specs.Summarising.{summary_gives}
 use Rattle.facts.specs.AllDefinitions.{definitions}
 use Rattle.facts.specs.Facts.{row, nothing, regular}
@@ -19,25 +16,25 @@ regular_with rows = record { points = regular.points; rows = rows }
 pub inverted_row :
     (open_answer (bytes_of 1 (regular_with (row 0 1 2 3 ∷ row 1 0 2 3 ∷ []))) ≡ 0)
     × (summary_gives (bytes_of 1 (regular_with (row 0 1 2 3 ∷ row 1 0 2 3 ∷ [])))
-    ≡ Summed (record { upright = 1; flat = 0; inverted = 1; worst = Worst (record { value = 0 }); octave = Exponent 0 }))
+    ≡ Ok (record { upright = 1; flat = 0; inverted = 1; worst = Some (record { value = 0 }); octave = Some 0 }))
 unfolding regular regular_with summary_gives definitions
 inverted_row = (refl, refl)
 
 -- no rows: both are marks
 pub no_rows :
-    summary_gives (bytes_of 1 nothing) ≡ Summed (record { upright = 0; flat = 0; inverted = 0; worst = NoRows; octave = NoUpright })
+    summary_gives (bytes_of 1 nothing) ≡ Ok (record { upright = 0; flat = 0; inverted = 0; worst = None; octave = None })
 unfolding nothing summary_gives definitions
 no_rows = refl
 
 -- rows but no upright row: a worst score, and the mark of the octave; an inverted row alone, and a flat one
 pub no_upright_inverted :
     summary_gives (bytes_of 1 (regular_with (row 1 0 2 3 ∷ [])))
-    ≡ Summed (record { upright = 0; flat = 0; inverted = 1; worst = Worst (record { value = 0 }); octave = NoUpright })
+    ≡ Ok (record { upright = 0; flat = 0; inverted = 1; worst = Some (record { value = 0 }); octave = None })
 unfolding regular regular_with summary_gives definitions
 no_upright_inverted = refl
 
 pub no_upright_flat :
     summary_gives (bytes_of 1 (plate_of (row 0 1 2 3 ∷ [])))
-    ≡ Summed (record { upright = 0; flat = 1; inverted = 0; worst = Worst (record { value = 0 }); octave = NoUpright })
+    ≡ Ok (record { upright = 0; flat = 1; inverted = 0; worst = Some (record { value = 0 }); octave = None })
 unfolding plate_points plate_of summary_gives definitions
 no_upright_flat = refl

@@ -1,16 +1,16 @@
 -- Looking up the keys of the gathered faces is looking at every kept row, for a face whose numbers are all met:
 -- a face of a kept row that is the same face has the same numbers, so it was gathered.
 use Prim.Native.Nat.{ℕ, ◌+◌, ◌%◌, ◌<◌}
-use mathlib.Core.Bool.{Bool, true, false, not, ◌&&◌}
+use mathlib.Core.Bool.{Bool, true, false, cond, not, ◌&&◌}
 use mathlib.Core.List.Memᴰ
 use mathlib.Core.List.{List, [], ◌∷◌, ◌++◌, map, flat_map, append-nil, append_assoc, Memᴰ, map-append}
-use mathlib.Core.Path.{◌≡◌, sym, ap, ◌∙◌, subst}
+use mathlib.Core.Path.{◌≡◌, refl, sym, ap, ◌∙◌, subst}
 use lib.Dec.{T}
 use native.Mathlib.Decide.{ℕ_discrete, dec_lt}
 use native.Mathlib.Numerals.{add-one}
 use native.Mathlib.Omega.{arith}
-use lib.ListN.{length, get_or, set, take}
-use lib.Seq.{take-suc-set, get_or-set_same, get_or-set_other}
+use lib.ListN.{length, get_or, set}
+use lib.Seq.{get_or-set_same, get_or-set_other}
 use Rattle.lists.specs.Lists.{any, those, has}
 use Rattle.lists.proofs.Tests.{same_test, and_l, and_r, and_i}
 use Rattle.lists.proofs.Lists.{any_i, any_e, those_e, those_i, those_append}
@@ -32,33 +32,21 @@ keyed_append met fs gs =
     ap (map face_key) (those_append (all_met met) fs gs) ∙ map-append face_key (those (all_met met) fs) (those (all_met met) gs)
 
 -- a face whose numbers are all met is gathered, and another is not
-pub keyed_one : (met : List Bool) (f : Face) → all_met met f ≡ true → keyed met (f ∷ []) ≡ face_key f ∷ []
+keyed_one : (met : List Bool) (f : Face) → keyed met (f ∷ []) ≡ cond (all_met met f) (face_key f ∷ []) []
 unfolding keyed those
-keyed_one met f e = rw e
-
-pub keyed_none : (met : List Bool) (f : Face) → all_met met f ≡ false → keyed met (f ∷ []) ≡ []
-unfolding keyed those
-keyed_none met f e = rw e
-
--- what the keys are after a face that is not gathered, and after one that is
-
-pub passed_over : (keys : List ℕ) (met : List Bool) (f : Face) → all_met met f ≡ false → keys ≡ keys ++ keyed met (f ∷ [])
-passed_over keys met f e = sym (ap (λ ks. keys ++ ks) (keyed_none met f e) ∙ append-nil keys)
-
-pub stored : (keys : List ℕ) (met : List Bool) (f : Face) (n key : ℕ) → n < length keys → all_met met f ≡ true → key ≡ face_key f
-    → take (n + 1) (set keys n key) ≡ take n keys ++ keyed met (f ∷ [])
-stored keys met f n key h e k =
-    rw add-one (take-suc-set keys n key h) ∙ ap (λ ks. take n keys ++ ks) (ap (λ x. x ∷ []) k ∙ sym (keyed_one met f e))
+keyed_one met f = go (all_met met f)
+  where
+    go : (b : Bool) → map face_key (cond b (f ∷ []) []) ≡ cond b (face_key f ∷ []) []
+    go true = refl
+    go false = refl
 
 -- four faces, one after the other
-pub four : (before : List ℕ) (met : List Bool) (f g h k : Face) {one two three all : List ℕ}
-    → one ≡ before ++ keyed met (f ∷ [])
-    → two ≡ one ++ keyed met (g ∷ [])
-    → three ≡ two ++ keyed met (h ∷ [])
-    → all ≡ three ++ keyed met (k ∷ [])
-    → all ≡ before ++ keyed met (f ∷ g ∷ h ∷ k ∷ [])
-four before met f g h k a b c d =
-    rw (d, c, b, a)
+pub four : (before : List ℕ) (met : List Bool) (f g h k : Face)
+    → before ++ cond (all_met met f) (face_key f ∷ []) [] ++ cond (all_met met g) (face_key g ∷ []) []
+    ++ cond (all_met met h) (face_key h ∷ []) [] ++ cond (all_met met k) (face_key k ∷ []) []
+    ≡ before ++ keyed met (f ∷ g ∷ h ∷ k ∷ [])
+four before met f g h k =
+    rw (← keyed_one met f, ← keyed_one met g, ← keyed_one met h, ← keyed_one met k)
     (simp append_assoc
     (sym (ap (λ ks. before ++ ks)
     (keyed_append met (f ∷ []) (g ∷ h ∷ k ∷ [])

@@ -1,15 +1,15 @@
 // The faces of kept rows that can matter, gathered once and then looked up: those whose numbers are all among a, b, v1..vm.
 #![tactic(auto)]
 
-ghost use Rattle.std.specs.Prelude.{◌≡◌, [], ◌∷◌, ◌++◌, false, cond, ◌||◌, ◌+◌, ◌*◌, ◌%◌, ◌<◌, ◌≤◌, length, take};
+ghost use Rattle.std.specs.Prelude.{◌≡◌, [], ◌∷◌, ◌++◌, false, cond, ◌||◌, ◌+◌, ◌*◌, ◌%◌, ◌<◌, ◌≤◌, length};
 ghost use Rattle.lists.specs.Lists.{has};
 ghost use Rattle.rows.specs.Rows.{rows_at, row_size, rows_in};
 ghost use Rattle.rows.specs.Steps.{most_rows};
 ghost use Rattle.keys.specs.Steps.{most_keys, row_faces, face_key};
 ghost use Rattle.ring.specs.Ring.{max_ring};
-ghost use Rattle.kept_faces.specs.Steps.{places, RimMet, keyed, kept_of, kept_keys, Gathered, used_by};
+ghost use Rattle.kept_faces.specs.Steps.{places, RimMet, all_met, kept_of, kept_keys, Gathered, used_by};
 
-use keys::MOST_KEYS;
+use keys::Keys;
 use layout::MAX_POINTS;
 use ring::MAX_RING;
 use rows::Row;
@@ -34,122 +34,93 @@ fn place(point: u8) -> usize
 
 // The points a, b and v1 to vm are met.
 fn meet(met: &mut [bool; PLACES], rim: Rim, m: usize)
-    requires { (length met.old ≡ places) × (m ≤ max_ring) }
-    ensures { (length met.new ≡ places) × RimMet met.new rim m }
+    requires { m ≤ max_ring }
+    ensures { RimMet met.new rim m }
 {
     met[place(rim.a)] = true;
     met[place(rim.b)] = true;
-    for i in 0..m {
-        met[place(rim.v[i])] = true;
+    for v in &rim.v[..m] {
+        met[place(*v)] = true;
     }
 }
 
-// A face's key after the first n, if its numbers are all met; and how many keys there are then.
-fn add_face(
-    keys: &mut [u32; MOST_KEYS],
-    n: usize,
-    met: &[bool; PLACES],
-    x: u8,
-    y: u8,
-    z: u8,
-) -> usize
-    requires { (length keys.old ≡ most_keys) × (length met.now ≡ places) × (n < most_keys) }
-    ensures { (length keys.new ≡ most_keys) × (result ≤ n + 1)
-        × (take result keys.new ≡ take n keys.old ++ keyed met.now ((x, y, z) ∷ [])) }
+// The numbers of a face are all met.
+fn all_met(met: &[bool; PLACES], x: u8, y: u8, z: u8) -> bool
+    ensures { result ≡ all_met met.now (x, y, z) }
 {
-    if !met[place(x)] {
-        return n;
-    }
-    if !met[place(y)] {
-        return n;
-    }
-    if !met[place(z)] {
-        return n;
-    }
-    keys[n] = keys::face_key(x, y, z);
-    n + 1
+    met[place(x)] && met[place(y)] && met[place(z)]
 }
 
-// The same of a row's four faces, if the row does not hold both ends.
-fn add_row(
-    keys: &mut [u32; MOST_KEYS],
-    n: usize,
-    met: &[bool; PLACES],
-    a: u8,
-    b: u8,
-    row: Row,
-) -> usize
-    requires { (length keys.old ≡ most_keys) × (length met.now ≡ places) × (n + row_faces ≤ most_keys) }
-    ensures { (length keys.new ≡ most_keys) × (result ≤ n + row_faces)
-        × (take result keys.new ≡ take n keys.old ++ kept_keys met.now (kept_of a b (row ∷ []))) }
+// The keys of a row's faces whose numbers are all met go behind the others, if the row does not hold both ends.
+fn add_row(keys: &mut Keys, met: &[bool; PLACES], a: u8, b: u8, row: Row)
+    requires { length keys.old + row_faces ≤ most_keys }
+    ensures added { keys.new ≡ keys.old ++ kept_keys met.now (kept_of a b (row ∷ [])) }
+    ensures four_more { length keys.new ≤ length keys.old + row_faces }
 {
     if rows::holds_edge(row, a, b) {
-        return n;
+        return;
     }
-    let one = add_face(keys, n, met, row.q, row.r, row.s);
-    let two = add_face(keys, one, met, row.p, row.s, row.r);
-    let three = add_face(keys, two, met, row.p, row.q, row.s);
-    add_face(keys, three, met, row.p, row.r, row.q)
+    keys.push_if(
+        all_met(met, row.q, row.r, row.s),
+        keys::face_key(row.q, row.r, row.s),
+    );
+    keys.push_if(
+        all_met(met, row.p, row.s, row.r),
+        keys::face_key(row.p, row.s, row.r),
+    );
+    keys.push_if(
+        all_met(met, row.p, row.q, row.s),
+        keys::face_key(row.p, row.q, row.s),
+    );
+    keys.push_if(
+        all_met(met, row.p, row.r, row.q),
+        keys::face_key(row.p, row.r, row.q),
+    );
 }
 
-// The keys of the kept rows' faces whose numbers are all met, from place 0 on; and how many they are.
-pub fn gather(keys: &mut [u32; MOST_KEYS], table: &[u8], n: usize, rim: Rim, m: usize) -> usize
-    requires { (length keys.old ≡ most_keys) × (rows_at + row_size * n ≤ length table.now) × (n ≤ most_rows) × (m ≤ max_ring) }
-    ensures { (length keys.new ≡ most_keys) × (result ≤ most_keys)
-        × Gathered (take result keys.new) rim m (kept_of rim.a rim.b (rows_in table.now n)) }
+// The keys of the kept rows' faces whose numbers are all met, in place of those that were there.
+pub fn gather(keys: &mut Keys, table: &[u8], n: usize, rim: Rim, m: usize)
+    requires { (rows_at + row_size * n ≤ length table.now) × (n ≤ most_rows) × (m ≤ max_ring) }
+    ensures { Gathered keys.new rim m (kept_of rim.a rim.b (rows_in table.now n)) }
 {
     let mut met = [false; PLACES];
     meet(&mut met, rim, m);
-    let mut found: usize = 0;
+    keys.clear();
     for i in 0..n {
-        found = add_row(keys, found, &met, rim.a, rim.b, rows::row_in(table, i));
+        add_row(keys, &met, rim.a, rim.b, rows::row_in(table, i));
     }
-    found
 }
 
-// Whether a face's key or that of the face the other way round is among the first n.
-pub fn uses_either(keys: &[u32; MOST_KEYS], n: usize, x: u8, y: u8, z: u8) -> bool
-    requires { (length keys.now ≡ most_keys) × (n ≤ most_keys) }
-    ensures { result ≡ used_by (take n keys.now) (x, y, z) }
+// Whether a face's key or that of the face the other way round is among the keys.
+pub fn uses_either(keys: &Keys, x: u8, y: u8, z: u8) -> bool
+    ensures { result ≡ used_by keys.now (x, y, z) }
 {
-    if keys::among(keys, n, keys::face_key(x, y, z)) {
+    if keys.has(keys::face_key(x, y, z)) {
         return true;
     }
-    keys::among(keys, n, keys::face_key(x, z, y))
+    keys.has(keys::face_key(x, z, y))
 }
 
 // The same of the faces that a and b make with a diagonal from x to y.
-pub fn uses_diagonal(keys: &[u32; MOST_KEYS], n: usize, a: u8, b: u8, x: u8, y: u8) -> bool
-    requires { (length keys.now ≡ most_keys) × (n ≤ most_keys) }
-    ensures { result ≡ used_by (take n keys.now) (a, x, y) || used_by (take n keys.now) (b, x, y) }
+pub fn uses_diagonal(keys: &Keys, a: u8, b: u8, x: u8, y: u8) -> bool
+    ensures { result ≡ used_by keys.now (a, x, y) || used_by keys.now (b, x, y) }
 {
-    if uses_either(keys, n, a, x, y) {
+    if uses_either(keys, a, x, y) {
         return true;
     }
-    uses_either(keys, n, b, x, y)
+    uses_either(keys, b, x, y)
 }
 
-// Whether one of the end faces of a chain from x to y, (a,x,y) and (b,y,x), is among the first n, in that
-// direction. Those of a closed ring are not looked up.
-pub fn uses_across(
-    keys: &[u32; MOST_KEYS],
-    n: usize,
-    closed: bool,
-    a: u8,
-    b: u8,
-    x: u8,
-    y: u8,
-) -> bool
-    requires { (length keys.now ≡ most_keys) × (n ≤ most_keys) }
-    ensures { result
-        ≡ cond closed false
-        (has (take n keys.now) (face_key (a, x, y)) || has (take n keys.now) (face_key (b, y, x))) }
+// Whether one of the end faces of a chain from x to y, (a,x,y) and (b,y,x), is among the keys, in that direction. Those of a
+// closed ring are not looked up.
+pub fn uses_across(keys: &Keys, closed: bool, a: u8, b: u8, x: u8, y: u8) -> bool
+    ensures { result ≡ cond closed false (has keys.now (face_key (a, x, y)) || has keys.now (face_key (b, y, x))) }
 {
     if closed {
         return false;
     }
-    if keys::among(keys, n, keys::face_key(a, x, y)) {
+    if keys.has(keys::face_key(a, x, y)) {
         return true;
     }
-    keys::among(keys, n, keys::face_key(b, y, x))
+    keys.has(keys::face_key(b, y, x))
 }

@@ -8,7 +8,7 @@ use mathlib.Core.Path.{◌≡◌, refl, sym, ap, ◌∙◌, subst}
 use native.Mathlib.Omega.{arith}
 use lib.Dec.{T}
 use lib.ListN.{length, get_or, take, drop}
-use lib.Seq.{take_at, drop_at, take-take, take-add}
+use lib.Seq.{take_at, drop_at, take-add}
 use Rattle.lists.specs.Lists.{every, has, numbers_from}
 use Rattle.lists.proofs.Tests.{either, no_is}
 use Rattle.lists.proofs.Images.{flat_map_append, flat_map_snoc}
@@ -20,16 +20,19 @@ use Rattle.mesh.proofs.FacesCounted.{apart_front, apart_more}
 use Rattle.keys.specs.Steps.{row_faces, row_keys, table_keys}
 use Rattle.keys.proofs.FaceKeys.{keys_apart}
 
-keys_length : (rows : List Row) → length (table_keys rows) ≡ row_faces * length rows
+pub keys_length : (rows : List Row) → length (table_keys rows) ≡ row_faces * length rows
 unfolding flat_map faces
 keys_length [] = refl
 keys_length (row ∷ rows) = omega (arith, keys_length rows)
 
-module _ (table keys : List ℕ) (n : ℕ) (stored : take (row_faces * n) keys ≡ table_keys (rows_in table n)) where
+-- the keys of one row more
+pub keys_more : (table : List ℕ) (i : ℕ) → table_keys (rows_in table (suc i)) ≡ table_keys (rows_in table i) ++ row_keys (row_in table i)
+keys_more table i = ap table_keys (rows_more table i) ∙ flat_map_snoc row_keys (rows_in table i) (row_in table i)
+
+module _ (table keys : List ℕ) (n : ℕ) (stored : keys ≡ table_keys (rows_in table n)) where
   keys_before : (i : ℕ) → i ≤ n → take (row_faces * i) keys ≡ table_keys (rows_in table i)
   keys_before i h =
-      sym (take-take (row_faces * i) (row_faces * n) keys (omega arith))
-      ∙ ap (take (row_faces * i)) (stored ∙ ap table_keys (ap (rows_in table) (omega arith) ∙ rows_append table i (n - i))
+      ap (take (row_faces * i)) (stored ∙ ap table_keys (ap (rows_in table) (omega arith) ∙ rows_append table i (n - i))
       ∙ flat_map_append row_keys (rows_in table i) (map (row_in table) (numbers_from i (n - i))))
       ∙ take_at (table_keys (rows_in table i)) (table_keys (map (row_in table) (numbers_from i (n - i)))) (row_faces * i)
       (omega (arith, keys_length (rows_in table i), rows_length table i))
@@ -47,8 +50,7 @@ module _ (table keys : List ℕ) (n : ℕ) (stored : take (row_faces * n) keys �
           ∙ sym (take-add (row_faces * i) row_faces keys)
           ∙ ap (λ k. take k keys) more
           ∙ keys_before (suc i) h
-          ∙ ap table_keys (rows_more table i)
-          ∙ flat_map_snoc row_keys (rows_in table i) (row_in table i)
+          ∙ keys_more table i
 
   -- a row that is found apart from those before it adds itself to the rows that are apart
   pub row_checked : ((j : ℕ) → get_or table j 0 < 256) → (i : ℕ) → i < n → (answer : Bool)

@@ -1,4 +1,5 @@
 pub mod FaceKeys
 pub mod FourStored
+pub mod OneMoreLookedAt
 pub mod CheckedByKeys
 pub mod RuleByKeys

@@ -137,13 +137,3 @@ open_fields block = record {
   coordinates = coordinates_of block;
   table = table_of block;
 }
-
--- what stands beside a refusal
-abbrev pub no_fields : Fields
-no_fields = record {
-  version = 0;
-  points = 0;
-  rows = 0;
-  coordinates = replicate (rows_at - points_at) 0;
-  table = replicate (body_bytes - rows_at) 0;
-}

@@ -2,7 +2,7 @@
 #![tactic(auto)]
 
 ghost use Rattle.std.specs.Prelude.{◌≡◌, ◌+◌, ◌/◌, ◌%◌, ◌<◌, ◌≤◌, not, ◌&&◌, ◌++◌, length, take, drop, ◌==◌, slice_index, slice_set};
-ghost use Rattle.layout.specs.Layout.{block_bytes, body_bytes, is_version, sums_of, sealed, sum_wrong, open_fields, no_fields};
+ghost use Rattle.layout.specs.Layout.{block_bytes, body_bytes, is_version, sums_of, sealed, sum_wrong, open_fields};
 
 use rows::{MARKED_VERSION, PLAIN_VERSION, ROWS_AT, VERSION_AT};
 
@@ -45,15 +45,15 @@ pub struct Fields {
 }
 
 // Each byte is added to the first sum, and then the first sum to the second.
+#[tactic(auto, unfolding(crate::specs::Layout::sums_onto))]
 fn sums_of(body: &[u8]) -> Sums
     ensures { result ≡ sums_of body.now }
 {
     let mut first: u16 = 0;
     let mut second: u16 = 0;
-    for i in 0..body.len() {
-        let sum = std::num::wrapping_add_u16(first, body[i] as u16);
-        second = std::num::wrapping_add_u16(second, sum);
-        first = sum;
+    for byte in body {
+        first = first.wrapping_add(*byte as u16);
+        second = second.wrapping_add(first);
     }
     Sums { first, second }
 }
@@ -64,10 +64,7 @@ fn differs(block: &[u8], at: usize, sum: u16) -> bool
     ensures { result ≡ not ((slice_index block.now at == sum % 256)
         && slice_index block.now (at + 1) == sum / 256) }
 {
-    if block[at] != (sum % 256) as u8 {
-        return true;
-    }
-    block[at + 1] != (sum / 256) as u8
+    block[at..at + 2] != sum.to_le_bytes()[..]
 }
 
 // Writes the sum to the two bytes at a place, low byte first.
@@ -75,15 +72,14 @@ fn put(out: &mut [u8], at: usize, sum: u16)
     requires { at + 1 < length out.old }
     ensures { out.new ≡ slice_set (slice_set out.old at (sum % 256)) (at + 1) (sum / 256) }
 {
-    out[at] = (sum % 256) as u8;
-    out[at + 1] = (sum / 256) as u8;
+    out[at..at + 2].copy_from_slice(&sum.to_le_bytes());
 }
 
 // The version is 1 or 2.
 pub fn is_version(version: u8) -> bool
     ensures { result ≡ is_version version }
 {
-    (version == PLAIN_VERSION) | (version == MARKED_VERSION)
+    version == PLAIN_VERSION || version == MARKED_VERSION
 }
 
 // The last four bytes are not the sums of those before.
@@ -92,10 +88,7 @@ pub fn sum_wrong(block: &[u8]) -> bool
     ensures { result ≡ sum_wrong block.now }
 {
     let sums = sums_of(&block[0..BODY_BYTES]);
-    if differs(block, BODY_BYTES, sums.first) {
-        return true;
-    }
-    differs(block, BODY_BYTES + 2, sums.second)
+    differs(block, BODY_BYTES, sums.first) || differs(block, BODY_BYTES + 2, sums.second)
 }
 
 // Writes the two sums behind the first 508 bytes.
@@ -113,9 +106,7 @@ pub fn copy(from: &[u8], to: &mut [u8])
     requires { length from.now ≤ length to.old }
     ensures { to.new ≡ from.now ++ drop (length from.now) to.old }
 {
-    for i in 0..from.len() {
-        to[i] = from[i];
-    }
+    to[..from.len()].copy_from_slice(from);
 }
 
 // The fields of a body.
@@ -124,27 +115,14 @@ pub fn fields_of(block: &[u8]) -> Fields
     ensures { result ≡ open_fields block.now }
 {
     let mut coordinates = [0u8; COORDINATE_BYTES];
-    copy(&block[POINTS_AT..ROWS_AT], &mut coordinates);
+    coordinates.copy_from_slice(&block[POINTS_AT..ROWS_AT]);
     let mut table = [0u8; TABLE_BYTES];
-    copy(&block[ROWS_AT..BODY_BYTES], &mut table);
+    table.copy_from_slice(&block[ROWS_AT..BODY_BYTES]);
     Fields {
         version: block[VERSION_AT],
         points: block[1],
         rows: block[2],
         coordinates,
         table,
-    }
-}
-
-// What stands beside a refusal.
-pub fn no_fields() -> Fields
-    ensures { result ≡ no_fields }
-{
-    Fields {
-        version: 0,
-        points: 0,
-        rows: 0,
-        coordinates: [0u8; COORDINATE_BYTES],
-        table: [0u8; TABLE_BYTES],
     }
 }

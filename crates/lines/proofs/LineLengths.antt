@@ -14,7 +14,7 @@ use Rattle.summary.specs.declared.Summary.{Summary}
 use Rattle.text.specs.Decimal.{decimal}
 use Rattle.text.proofs.DecimalDigits.{three_digits, small}
 use Rattle.lines.specs.Lines.{text, spaced, line_end, ended, line, row_figures}
-use Rattle.lines.specs.Lines.{score_field, octave_field, summary_fields, ring_line, row_line}
+use Rattle.lines.specs.Lines.{score_field, number_or_mark, summary_fields, ring_line, row_line}
 
 line_size : (word : String) (fields : List (List ℕ)) → length (line word fields) ≡ length (text word) + length (ended fields)
 unfolding line
@@ -72,7 +72,7 @@ pub record SmallSummary (summary : Summary) : Type 0 where
   pub flat : summary.flat < 1000
   pub inverted : summary.inverted < 1000
   pub worst : length (score_field summary.worst) ≤ 4
-  pub octave : length (octave_field summary.octave) ≤ 3
+  pub octave : length (number_or_mark summary.octave) ≤ 3
 
 -- the line of a summary
 pub summary_size : (word : String) (summary : Summary) → SmallSummary summary
@@ -83,7 +83,7 @@ summary_size word summary fits =
     let flat = decimal summary.flat in
     let inverted = decimal summary.inverted in
     let worst = score_field summary.worst in
-    let octave = octave_field summary.octave in
+    let octave = number_or_mark summary.octave in
     let a = field_size upright (flat ∷ inverted ∷ worst ∷ octave ∷ []) in
     let b = field_size flat (inverted ∷ worst ∷ octave ∷ []) in
     let c = field_size inverted (worst ∷ octave ∷ []) in

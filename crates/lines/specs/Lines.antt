@@ -1,12 +1,9 @@
 -- Requirement §12: the lines that the program prints.
-use Rattle.std.specs.Prelude.{ℕ}
+use Rattle.std.specs.Prelude.{ℕ, Option, None, Some, option_map}
 use Prim.Native.Char.{code}
 use Prim.Native.String.{String, [] as empty, ◌∷◌ as ◌then◌}
 use mathlib.Core.List.{List, [], ◌∷◌, ◌++◌, map, flat_map}
-use Rattle.score.specs.declared.WorstScore.{WorstScore}
-use Rattle.score.specs.declared.WorstScore.TheVariants.{Worst, NoRows}
-use Rattle.score.specs.declared.Octave.{Octave}
-use Rattle.score.specs.declared.Octave.TheVariants.{Exponent, NoUpright}
+use Rattle.score.specs.declared.Score.{Score}
 use Rattle.rows.specs.declared.Row.{Row}
 use Rattle.summary.specs.declared.Summary.{Summary}
 use Rattle.text.specs.Decimal.{decimal}
@@ -36,21 +33,20 @@ line word fields = text word ++ ended fields
 unfoldable pub mark : List ℕ
 mark = text "-"
 
--- worst score, or the mark
-abbrev pub score_field : WorstScore → List ℕ
-score_field (Worst score) = decimal score.value
-score_field NoRows = mark
+-- a number, or the mark where there is none
+abbrev pub number_or_mark : Option ℕ → List ℕ
+number_or_mark (Some n) = decimal n
+number_or_mark None = mark
 
--- octave, or the mark
-abbrev pub octave_field : Octave → List ℕ
-octave_field (Exponent e) = decimal e
-octave_field NoUpright = mark
+-- worst score, or the mark
+abbrev pub score_field : Option Score → List ℕ
+score_field worst = number_or_mark (option_map (λ score. score.value) worst)
 
 -- the patch's upright, flat and inverted counts, worst score and octave
 unfoldable pub summary_fields : Summary → List (List ℕ)
 summary_fields summary =
     decimal summary.upright ∷ decimal summary.flat ∷ decimal summary.inverted
-    ∷ score_field summary.worst ∷ octave_field summary.octave ∷ []
+    ∷ score_field summary.worst ∷ number_or_mark summary.octave ∷ []
 
 -- `before` and `after` the summary of the block that was given, and of the block that was written
 abbrev pub summary_lines : Summary → Summary → List ℕ

@@ -6,13 +6,12 @@ ghost use Rattle.std.specs.Prelude.{◌≡◌, ◌+◌, ◌*◌, ◌≤◌, leng
 ghost use Rattle.rows.specs.Rows.{rows_at, row_size, rows_in};
 ghost use Rattle.ring.specs.Ring.{max_ring};
 ghost use Rattle.text.specs.Decimal.{decimal};
-ghost use Rattle.lines.specs.Lines.{spaced, line_end, ended, mark, score_field, octave_field, summary_fields};
+ghost use Rattle.lines.specs.Lines.{spaced, line_end, ended, mark, number_or_mark, summary_fields};
 ghost use Rattle.lines.specs.Lines.{answer_line, ring_line, row_line};
 ghost use Rattle.text.specs.Steps.{Behind};
 
 use ring::Ring;
 use rows::Row;
-use score::{Octave, WorstScore};
 use summary::Summary;
 use text::{Text, put_byte, put_decimal, put_word};
 
@@ -49,23 +48,13 @@ pub fn put_answer(text: Text, answer: u8) -> Text
     put_end(put_number(put_word(text, b"answer"), answer as u16))
 }
 
-// The score of the worst row, or the mark of no rows.
-fn put_score(text: Text, worst: WorstScore) -> Text
-    ensures { Behind text (spaced (score_field worst)) result }
+// A number as a field, or the mark where there is none.
+fn put_number_or_mark(text: Text, number: Option<u16>) -> Text
+    ensures { Behind text (spaced (number_or_mark number)) result }
 {
-    match worst {
-        WorstScore::Worst(score) => put_number(text, score.value()),
-        WorstScore::NoRows => put_mark(text),
-    }
-}
-
-// The octave, or the mark of no upright row.
-fn put_octave(text: Text, octave: Octave) -> Text
-    ensures { Behind text (spaced (octave_field octave)) result }
-{
-    match octave {
-        Octave::Exponent(e) => put_number(text, e as u16),
-        Octave::NoUpright => put_mark(text),
+    match number {
+        Some(n) => put_number(text, n),
+        None => put_mark(text),
     }
 }
 
@@ -73,12 +62,11 @@ fn put_octave(text: Text, octave: Octave) -> Text
 pub fn put_summary(text: Text, summary: Summary) -> Text
     ensures { Behind text (ended (summary_fields summary)) result }
 {
-    let worst = summary.worst;
-    let octave = summary.octave;
     let upright = put_number(text, summary.upright as u16);
     let flat = put_number(upright, summary.flat as u16);
     let inverted = put_number(flat, summary.inverted as u16);
-    put_end(put_octave(put_score(inverted, worst), octave))
+    let score = put_number_or_mark(inverted, summary.worst.map(|score| score.value()));
+    put_end(put_number_or_mark(score, summary.octave.map(u16::from)))
 }
 
 // The line of the ring, or of the chain.
@@ -87,10 +75,8 @@ pub fn put_ring(text: Text, ring: Ring) -> Text
     ensures { Behind text (ring_line (take ring.m ring.v)) result }
 {
     let mut line = put_word(text, b"ring");
-    let m = ring.m as usize;
-    let v = ring.v;
-    for i in 0..m {
-        line = put_number(line, v[i] as u16);
+    for &point in &ring.v[..ring.m as usize] {
+        line = put_number(line, point as u16);
     }
     put_end(line)
 }

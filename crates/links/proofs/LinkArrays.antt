@@ -1,13 +1,13 @@
 -- The links and places that three arrays hold: how many, which stands where, and one more.
-use Prim.Native.Nat.{ℕ, suc, ◌+◌, ◌<◌}
-use mathlib.Core.List.{[], ◌∷◌, ◌++◌, map}
-use mathlib.Core.Path.{◌≡◌, ap, ◌∙◌}
+use Prim.Native.Nat.{ℕ, suc, ◌+◌, ◌<◌, ◌≤◌}
+use mathlib.Core.List.{[], ◌∷◌, ◌++◌, map, map-map}
+use mathlib.Core.Path.{◌≡◌, sym, ap, ◌∙◌}
 use native.Mathlib.Numerals.{add-one}
 use native.Mathlib.Omega.{arith}
-use lib.ListN.{length, get_or, set, drop, length-map}
+use lib.ListN.{length, get_or, set, take, drop, length-map}
 use lib.Seq.{drop-cons, get_or-set_same, get_or-set_other, take-suc-set}
 use Rattle.lists.specs.Lists.{numbers_from}
-use Rattle.lists.proofs.Numbers.{numbers_e, map_numbers_length, map_numbers_at, map_numbers_append}
+use Rattle.lists.proofs.Numbers.{numbers_e, map_numbers_length, map_numbers_at, map_numbers_append, map_numbers_take}
 use Rattle.lists.proofs.Images.{map_same, map_at}
 use Rattle.links.specs.declared.Links.{Links}
 use Rattle.links.specs.Links.{Link, starts, ends}
@@ -30,13 +30,18 @@ in_drop links i h =
 pub starts_length : (links : Links) → length (starts (links_in links)) ≡ links.n
 starts_length links = length-map (links_in links) (λ l. l.0) ∙ in_length links
 
-pub ends_length : (links : Links) → length (ends (links_in links)) ≡ links.n
-ends_length links = length-map (links_in links) (λ l. l.1) ∙ in_length links
+-- the starts and the ends are the fronts of their arrays
+pub starts_taken : (links : Links) → links.n ≤ length links.starts → take links.n links.starts ≡ starts (links_in links)
+unfolding links_in
+starts_taken links h =
+    sym (map-map (λ (l : Link). l.0) (λ i. (get_or links.starts i 0, get_or links.ends i 0)) (numbers_from 0 links.n)
+    ∙ map_numbers_take links.n links.starts h)
 
-pub starts_at : (links : Links) (i : ℕ) → i < links.n → get_or (starts (links_in links)) i 0 ≡ get_or links.starts i 0
-starts_at links i h =
-    let k : i < length (links_in links) = omega (arith, in_length links) in
-    map_at (λ (l : Link). l.0) (links_in links) i (0, 0) 0 k ∙ ap (λ (l : Link). l.0) (in_at links i h)
+pub ends_taken : (links : Links) → links.n ≤ length links.ends → take links.n links.ends ≡ ends (links_in links)
+unfolding links_in
+ends_taken links h =
+    sym (map-map (λ (l : Link). l.1) (λ i. (get_or links.starts i 0, get_or links.ends i 0)) (numbers_from 0 links.n)
+    ∙ map_numbers_take links.n links.ends h)
 
 -- the links, with one row more
 abbrev with_row : Links → ℕ → ℕ → ℕ → Links
@@ -65,10 +70,3 @@ in_added links place v w s e =
     in
     let back : at n ≡ (v, w) = rw (get_or-set_same links.starts n v 0 s, get_or-set_same links.ends n w 0 e) in
     map_numbers_append at n 1 ∙ rw (front, back)
-
-pub ends_drop : (links : Links) (i : ℕ) → i < links.n
-    → drop i (ends (links_in links)) ≡ get_or links.ends i 0 ∷ drop (suc i) (ends (links_in links))
-ends_drop links i h =
-    let k : i < length (links_in links) = omega (arith, in_length links) in
-    let e = map_at (λ (l : Link). l.1) (links_in links) i (0, 0) 0 k ∙ ap (λ (l : Link). l.1) (in_at links i h) in
-    drop-cons (ends (links_in links)) i 0 (omega (arith, ends_length links)) ∙ ap (λ n. n ∷ drop (suc i) (ends (links_in links))) e

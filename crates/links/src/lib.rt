@@ -20,6 +20,8 @@ pub struct Link {
 }
 
 // The n rows round an edge, in the order of the table: row i stands at places[i], and its link goes from starts[i] to ends[i].
+// Kept: three arrays and no array of one struct, since a scan reads one of them alone: `contains` and `min` take the starts or the ends as bytes in a row.
+// Kept: n ≤ max_rows stays a clause and is no ghost field: with one, `gather`'s loop sees its links as bare fields, of which its invariant cannot say `links_in`.
 #[derive(Clone, Copy)]
 pub struct Links {
     pub n: usize,

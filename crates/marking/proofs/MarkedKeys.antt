@@ -1,11 +1,8 @@
--- The keys of the faces that a row marks, one face after the other, and a key stored behind others.
-use Prim.Native.Nat.{ℕ, suc, ◌+◌, ◌<◌}
+-- The keys of the faces that a row marks, one face after the other.
+use Prim.Native.Nat.{ℕ}
 use mathlib.Core.Bool.{Bool, true, false, cond}
 use mathlib.Core.List.{List, [], ◌∷◌, ◌++◌, map, append_assoc, append-nil}
 use mathlib.Core.Path.{◌≡◌, refl, sym, ap, ◌∙◌}
-use native.Mathlib.Omega.{arith}
-use lib.ListN.{length, take, drop, set, length-append}
-use lib.Seq.{set_split, take_at, length-take-le}
 use Rattle.lists.specs.Lists.{those}
 use Rattle.rows.specs.declared.Row.{Row}
 use Rattle.mesh.specs.Mesh.{Face}
@@ -57,11 +54,3 @@ keys_four over row front =
     ∙ append_assoc (front ++ a) b (c ++ d)
     ∙ append_assoc front a (b ++ (c ++ d))
     ∙ ap (λ xs. front ++ xs) (sym e1)
-
--- a key stored behind n others
-pub stored_behind : (keys : List ℕ) (n key : ℕ) → n < length keys → take (n + 1) (set keys n key) ≡ take n keys ++ key ∷ []
-stored_behind keys n key h =
-    let size = length-take-le n keys (omega arith) in
-    rw (set_split keys n key h)
-    (ap (take (n + 1)) (sym (append_assoc (take n keys) (key ∷ []) (drop (suc n) keys)))
-    ∙ take_at (take n keys ++ key ∷ []) (drop (suc n) keys) (n + 1) (omega (arith, length-append (take n keys) (key ∷ []))))

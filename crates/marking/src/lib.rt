@@ -1,7 +1,7 @@
 // Marked faces of the rows of a table: their keys, gathered, and by them whether both rows at a face agree.
 #![tactic(auto)]
 
-ghost use Rattle.std.specs.Prelude.{◌+◌, ◌*◌, ◌<◌, ◌≤◌, true, false, cond, not, ◌||◌, [], ◌∷◌, ◌++◌, ◌≡◌, length, take};
+ghost use Rattle.std.specs.Prelude.{◌+◌, ◌*◌, ◌≤◌, false, not, ◌||◌, ◌++◌, ◌≡◌, length};
 ghost use Rattle.lists.specs.Lists.{every, has};
 ghost use Rattle.rows.specs.Rows.{rows_at, row_size, rows_in};
 ghost use Rattle.rows.specs.Steps.{most_rows};
@@ -10,7 +10,7 @@ ghost use Rattle.keys.specs.Steps.{most_keys, face_key};
 ghost use Rattle.marking.specs.Marking.{marked_faces, agree};
 ghost use Rattle.marking.specs.Steps.{key_of, marked_keys, keys_marked};
 
-use keys::MOST_KEYS;
+use keys::Keys;
 use rows::Row;
 
 // ---- the keys of marked faces
@@ -25,76 +25,51 @@ fn key_of(over: bool, x: u8, y: u8, z: u8) -> u32
     keys::face_key(x, y, z)
 }
 
-// The key of a face that is marked is stored behind n others; the number of keys is returned.
-fn store_face(
-    keys: &mut [u32; MOST_KEYS],
-    n: usize,
-    mark: bool,
-    over: bool,
-    x: u8,
-    y: u8,
-    z: u8,
-) -> usize
-    requires { (length keys.old ≡ most_keys) × (n < most_keys) }
-    ensures { (length keys.new ≡ most_keys) × (result ≤ n + 1)
-        × (take result keys.new ≡ take n keys.old ++ cond mark (key_of over (x, y, z) ∷ []) []) }
-{
-    if !mark {
-        return n;
-    }
-    keys[n] = key_of(over, x, y, z);
-    n + 1
-}
-
-// The keys of the faces that a row marks, turned over or not, are stored behind n others; the number of keys is returned.
-pub fn store_marked(keys: &mut [u32; MOST_KEYS], n: usize, row: Row, over: bool) -> usize
-    requires { (length keys.old ≡ most_keys) × (n + 4 ≤ most_keys) }
-    ensures { (length keys.new ≡ most_keys) × (result ≤ n + 4)
-        × (take result keys.new ≡ take n keys.old ++ marked_keys over row) }
+// The keys of the faces that a row marks, turned over or not, go behind the others.
+pub fn store_marked(keys: &mut Keys, row: Row, over: bool)
+    requires { length keys.old + 4 ≤ most_keys }
+    ensures stored { keys.new ≡ keys.old ++ marked_keys over row }
+    ensures four_more { length keys.new ≤ length keys.old + 4 }
 {
     let marks = row.marks;
-    let a = store_face(keys, n, marks.qrs, over, row.q, row.r, row.s);
-    let b = store_face(keys, a, marks.psr, over, row.p, row.s, row.r);
-    let c = store_face(keys, b, marks.pqs, over, row.p, row.q, row.s);
-    store_face(keys, c, marks.prq, over, row.p, row.r, row.q)
+    keys.push_if(marks.qrs, key_of(over, row.q, row.r, row.s));
+    keys.push_if(marks.psr, key_of(over, row.p, row.s, row.r));
+    keys.push_if(marks.pqs, key_of(over, row.p, row.q, row.s));
+    keys.push_if(marks.prq, key_of(over, row.p, row.r, row.q));
 }
 
-// The keys of all marked faces of the first n rows, from place 0 on; their number is returned.
-fn store_all(keys: &mut [u32; MOST_KEYS], table: &[u8], n: usize) -> usize
-    requires { (length keys.old ≡ most_keys) × (rows_at + row_size * n ≤ length table.now) × (n ≤ most_rows) }
-    ensures { (length keys.new ≡ most_keys) × (result ≤ most_keys)
-        × (take result keys.new ≡ keys_marked (λ row. false) (rows_in table.now n)) }
+// The keys of all marked faces of the first n rows, in place of those that were there.
+fn store_all(keys: &mut Keys, table: &[u8], n: usize)
+    requires { (rows_at + row_size * n ≤ length table.now) × (n ≤ most_rows) }
+    ensures { keys.new ≡ keys_marked (λ row. false) (rows_in table.now n) }
 {
-    let mut count: usize = 0;
+    keys.clear();
     for i in 0..n {
-        count = store_marked(keys, count, rows::row_in(table, i), false);
+        store_marked(keys, rows::row_in(table, i), false);
     }
-    count
 }
 
 // ---- both rows at a face agree
 
-// A face is marked, or the first n keys do not have it turned over.
-fn face_agrees(keys: &[u32; MOST_KEYS], n: usize, mark: bool, x: u8, y: u8, z: u8) -> bool
-    requires { (length keys.now ≡ most_keys) × (n ≤ most_keys) }
-    ensures { result ≡ mark || not (has (take n keys.now) (face_key (reversed (x, y, z)))) }
+// A face is marked, or the keys do not have it turned over.
+fn face_agrees(keys: &Keys, mark: bool, x: u8, y: u8, z: u8) -> bool
+    ensures { result ≡ mark || not (has keys.now (face_key (reversed (x, y, z)))) }
 {
     if mark {
         return true;
     }
-    !keys::among(keys, n, keys::face_key(x, z, y))
+    !keys.has(keys::face_key(x, z, y))
 }
 
 // So it is of each face of a row.
-fn row_agrees(keys: &[u32; MOST_KEYS], n: usize, row: Row) -> bool
-    requires { (length keys.now ≡ most_keys) × (n ≤ most_keys) }
-    ensures { result ≡ every (λ g. g.1 || not (has (take n keys.now) (face_key (reversed g.0)))) (marked_faces row) }
+fn row_agrees(keys: &Keys, row: Row) -> bool
+    ensures { result ≡ every (λ g. g.1 || not (has keys.now (face_key (reversed g.0)))) (marked_faces row) }
 {
     let marks = row.marks;
-    let qrs = face_agrees(keys, n, marks.qrs, row.q, row.r, row.s);
-    let psr = face_agrees(keys, n, marks.psr, row.p, row.s, row.r);
-    let pqs = face_agrees(keys, n, marks.pqs, row.p, row.q, row.s);
-    let prq = face_agrees(keys, n, marks.prq, row.p, row.r, row.q);
+    let qrs = face_agrees(keys, marks.qrs, row.q, row.r, row.s);
+    let psr = face_agrees(keys, marks.psr, row.p, row.s, row.r);
+    let pqs = face_agrees(keys, marks.pqs, row.p, row.q, row.s);
+    let prq = face_agrees(keys, marks.prq, row.p, row.r, row.q);
     qrs & (psr & (pqs & prq))
 }
 
@@ -106,10 +81,10 @@ pub fn all_agree(table: &[u8], n: usize) -> bool
     if rows::unmarked(table) {
         return true;
     }
-    let mut keys = [0u32; MOST_KEYS];
-    let count = store_all(&mut keys, table, n);
+    let mut keys = Keys::new();
+    store_all(&mut keys, table, n);
     for i in 0..n {
-        if !row_agrees(&keys, count, rows::row_in(table, i)) {
+        if !row_agrees(&keys, rows::row_in(table, i)) {
             return false;
         }
     }

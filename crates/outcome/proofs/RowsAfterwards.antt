@@ -3,9 +3,11 @@ use Prim.Native.Nat.{ℕ, ◌≤◌, min, max}
 use mathlib.Core.Bool.{Bool, not}
 use mathlib.Core.List.{List}
 use mathlib.Core.Path.{◌≡◌, sym, ap, ap₂, ◌∙◌, subst}
+use mathlib.Core.Logic.{∥∥₁_elim}
 use native.Mathlib.Omega.{arith}
-use lib.Dec.{T}
+use lib.Dec.{T, T_prop}
 use lib.ListN.{length, length-append, length-map}
+use Rattle.std.proofs.Math.Nat.{ℕ_set}
 use Rattle.lists.specs.Lists.{every}
 use Rattle.lists.proofs.Lists.{those_e}
 use Rattle.volume.proofs.PointsInBytes.{points_length}
@@ -26,13 +28,16 @@ use Rattle.tally.specs.Tally.{patch_in, worst_of_patch}
 use Rattle.ring.specs.declared.Ring.{Ring}
 use Rattle.ring.specs.Ring.{Site, site_of}
 use Rattle.ring.proofs.RingInAnyOrder.{site_ordered}
-use Rattle.triangulation.specs.Triangulation.{new_rows, table_after}
+use Rattle.triangulation.specs.Triangulation.{new_rows, table_after, rows_after}
 use Rattle.triangulation.specs.Best.{chosen}
 use Rattle.cells.specs.Steps.{cells}
 use Rattle.calls.specs.Removing.{rows_made, patch_after}
 use Rattle.calls.proofs.BestDecides.{chosen_keeps, chosen_rows}
 use Rattle.kept_marks.proofs.DressedRows.{dress_keeps}
 use Rattle.kept_marks.proofs.NewRowsPlain.{new_plain}
+use Rattle.edge.specs.declared.RingedEdge.{RingedEdge}
+use Rattle.edge.specs.Edges.{site_of_edge, IsEdgeOf}
+use Rattle.edge.proofs.EdgeRinged.{in_block_site}
 use Rattle.replacement.specs.Steps.{Carriable, edge_site, Replaceable}
 use Rattle.outcome.specs.Steps.{rows_afterwards, Replaces}
 
@@ -54,13 +59,16 @@ module _ (block : List ℕ) (e f : ℕ) {closed : Bool} {ring : Ring} {region : 
   own_rows : after ≡ rows_afterwards block e f
   own_rows = ap (λ (s : Site). (patch_after s).rows) own_site
 
+  made_rows : length (table_after its (chosen its)) ≡ rows_after its
+  made_rows = ∥∥₁_elim given.ringed.sound (ℕ_set _ _) (λ sound. chosen_rows its sound given.ringed.ready.long given.way)
+
   few : length after ≤ max_rows
   unfolding patch_after table_after
   few =
       let made = length-map new (dress_by (new_mark its.removed its.kept)) in
       omega (
         arith,
-        chosen_rows its given.ringed.sound given.ringed.ready.long given.way,
+        made_rows,
         given.room,
         length-append its.kept (rows_made its),
         length-append its.kept new,
@@ -69,16 +77,18 @@ module _ (block : List ℕ) (e f : ℕ) {closed : Bool} {ring : Ring} {region : 
   pub few_afterwards : length (rows_afterwards block e f) ≤ max_rows
   few_afterwards = subst (λ (rows : List Row). length rows ≤ max_rows) own_rows few
 
-  pub carriable : {rows : List ℕ} → length apexes ≡ cells → body_bytes ≤ length rows → version rows ≡ version block
-      → Carriable its region apexes block rows
-  carriable whole place same = record {
-    room = given.room;
-    own_region = given.own_region;
-    whole = whole;
-    stand = given.stand;
-    place = place;
-    same_version = same;
-  }
+  pub carriable : {rows : List ℕ} {edge : RingedEdge} → IsEdgeOf block e f closed ring edge → length apexes ≡ cells → body_bytes ≤ length rows
+      → version rows ≡ version block → Carriable (site_of_edge edge) region apexes edge.table.now rows
+  carriable {rows} {edge} is whole place same =
+      subst (λ (s : Site). Carriable s region apexes edge.table.now rows) (sym (in_block_site is))
+      (record {
+        room = given.room;
+        own_region = given.own_region;
+        whole = whole;
+        stand = given.stand;
+        place = place;
+        same_version = same ∙ ap version (sym is.table);
+      })
 
   -- there is room for them
   after_roomy : T (every (roomy (version block)) after)
@@ -97,27 +107,35 @@ module _ (block : List ℕ) (e f : ℕ) {closed : Bool} {ring : Ring} {region : 
   unfolding patch_after table_after
   after_keeps =
       subst T (sym (dress_keeps (new_mark its.removed its.kept) (length its.points) its.kept new))
-      (chosen_keeps its given.ringed.sound given.ringed.ready.long given.way)
+      (∥∥₁_elim given.ringed.sound (T_prop _) (λ sound. chosen_keeps its sound given.ringed.ready.long given.way))
 
   module _ (before : List ℕ) (place : body_bytes ≤ length before) (same : version before ≡ version block)
-      (n : ℕ) (n_is : n ≡ length after) (rows : List ℕ) (rows_is : rows ≡ with_rows before 0 after) where
+      {edge : RingedEdge} (is : IsEdgeOf block e f closed ring edge)
+      (n : ℕ) (n_is : n ≡ length (patch_after (site_of_edge edge)).rows)
+      (rows : List ℕ) (rows_is : rows ≡ with_rows before 0 (patch_after (site_of_edge edge)).rows) where
+    own_number : n ≡ length after
+    own_number = n_is ∙ ap (λ (s : Site). length (patch_after s).rows) (in_block_site is)
+
+    own_table : rows ≡ with_rows before 0 after
+    own_table = rows_is ∙ ap (λ (s : Site). with_rows before 0 (patch_after s).rows) (in_block_site is)
+
     read : rows_in rows n ≡ after
-    read = ap₂ rows_in rows_is n_is ∙ written_read before after (rw same after_roomy) (omega (arith, few))
+    read = ap₂ rows_in own_table own_number ∙ written_read before after (rw same after_roomy) (omega (arith, few))
 
     -- the rows afterwards can be measured
-    pub measured : Measured (coordinates_of block) (point_count block) rows n
+    pub measured : Measured edge.coordinates.now edge.count rows n
     unfolding site_of
     measured =
-        let size : length rows ≡ length before = ap length rows_is ∙ with_length before 0 after (omega (arith, few)) in
+        let size : length rows ≡ length before = ap length own_table ∙ with_length before 0 after (omega (arith, few)) in
         let fit = keeps_fits (length its.points) after after_keeps in
         let own = subst (λ c. T (every (numbers_fit c) after)) (points_length (coordinates_of block) (point_count block)) fit in
         let now = given.ringed.measured in
-        record {
+        rw (is.coordinates, is.count) (record {
           points_held = now.points_held;
-          rows_held = omega (arith, size, n_is, few);
-          rows_most = omega (arith, n_is, few);
+          rows_held = omega (arith, size, own_number, few);
+          rows_most = omega (arith, own_number, few);
           proper = rw read own;
-        }
+        })
 
     patch_is : patch_in (coordinates_of block) (point_count block) rows n ≡ patch_after (site_of (fields_of block) e f)
     unfolding patch_after site_of
@@ -125,13 +143,13 @@ module _ (block : List ℕ) (e f : ℕ) {closed : Bool} {ring : Ring} {region : 
         let own : patch_in (coordinates_of block) (point_count block) rows n ≡ patch_after its = rw read in
         own ∙ ap patch_after own_site
 
-    pub replaced : (page : PageRow)
-        → page ≡ page_row (shown (worst_of_patch (patch_in (coordinates_of block) (point_count block) block (row_count block))))
-        (shown (worst_of_patch (patch_in (coordinates_of block) (point_count block) rows n)))
+    pub replaced : {first : Patch} → first ≡ fields_of block → {second : Patch} → second ≡ patch_in edge.coordinates.now edge.count rows n
+        → (page : PageRow) → page ≡ page_row (shown (worst_of_patch first)) (shown (worst_of_patch second))
         → Replaces block e f before rows (record { n = n; page = page })
-    unfolding fields_of
-    replaced page page-is = record {
-      number = n_is ∙ ap length own_rows;
-      table = rows_is ∙ ap (with_rows before 0) own_rows;
-      page = page-is ∙ ap (λ (patch : Patch). page_row (shown (worst_of_patch (fields_of block))) (shown (worst_of_patch patch))) patch_is;
-    }
+    replaced first_is second_is page page_is =
+        let own = rw (is.coordinates, is.count) at second_is in
+        record {
+          number = own_number ∙ ap length own_rows;
+          table = own_table ∙ ap (with_rows before 0) own_rows;
+          page = page_is ∙ ap₂ (λ (x y : Patch). page_row (shown (worst_of_patch x)) (shown (worst_of_patch y))) first_is (own ∙ patch_is);
+        }

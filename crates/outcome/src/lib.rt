@@ -11,12 +11,11 @@ ghost use Rattle.outcome.specs.Steps.{Replaces};
 
 use cells::CELLS;
 use display::page_row;
-use edge::{larger, smaller};
-use layout::POINTS_AT;
+use edge::RingedEdge;
 use page::PageRow;
 use replacement::carry_out;
 use ring::Ring;
-use rows::ROWS_AT;
+use tally::MeasuredRows;
 
 // How many rows there are afterwards, and the page row.
 #[derive(Clone, Copy)]
@@ -40,26 +39,12 @@ pub fn replace(
     requires apexes_len { (length apexes.now ≡ cells) × (body_bytes ≤ length rows.old) × (version rows.old ≡ version block.now) }
     ensures { Replaces block.now e f rows.old rows.new result }
 {
-    let count = block[1] as usize;
-    let n = block[2] as usize;
-    let coordinates = &block[POINTS_AT..ROWS_AT];
-    let a = smaller(e, f);
-    let b = larger(e, f);
-    let end = carry_out(
-        coordinates,
-        count,
-        block,
-        n,
-        a,
-        b,
-        closed,
-        ring,
-        region,
-        apexes,
-        rows,
-    );
+    let edge = RingedEdge::in_block(block, e, f, closed, ring);
+    let n = carry_out(&edge, region, apexes, rows);
+    let before = MeasuredRows::of_block(block);
+    let after = MeasuredRows::of_table(edge.coordinates, edge.count, rows, n);
     After {
-        n: end,
-        page: page_row(coordinates, count, block, n, rows, end),
+        n,
+        page: page_row(&before, &after),
     }
 }

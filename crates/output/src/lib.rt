@@ -1,7 +1,7 @@
 // The block afterwards: the rows that stay, the new rows behind them, and the sums made anew.
 #![tactic(auto)]
 
-ghost use Rattle.std.specs.Prelude.{◌≡◌, ◌+◌, ◌*◌, ◌≤◌, length, take, set, replicate};
+ghost use Rattle.std.specs.Prelude.{◌≡◌, ◌+◌, ◌*◌, ◌≤◌, length, take, set};
 ghost use Rattle.rows.specs.Rows.{rows_at, row_size, rows_in, with_rows};
 ghost use Rattle.layout.specs.Layout.{block_bytes, body_bytes, max_rows, sealed};
 ghost use Rattle.block.specs.Opening.{open_answer};
@@ -39,22 +39,13 @@ pub fn keep_others(table: &[u8], n: usize, x: u8, y: u8, z: u8, rows: &mut [u8])
 
 // ---- the block
 
-// Every byte becomes zero.
-fn clear(part: &mut [u8])
-    ensures { part.new ≡ replicate (length part.old) 0 }
-{
-    for i in 0..part.len() {
-        part[i] = 0;
-    }
-}
-
 // The block's points and no rows: the rows are then written into their place, and `finish` ends the block.
 pub fn begin(block: &[u8], out: &mut [u8])
     requires { (open_answer block.now ≡ 0) × (length out.old ≡ block_bytes) }
     ensures { out.new ≡ begun block.now out.old }
 {
     layout::copy(&block[0..ROWS_AT], out);
-    clear(&mut out[ROWS_AT..BODY_BYTES]);
+    out[ROWS_AT..BODY_BYTES].fill(0);
 }
 
 // The number of rows, and the sums made anew.

@@ -168,6 +168,5 @@ shown_near q h s r = go q.kind
 
 -- what the code has is what is shown, and so near: it read both numbers, and each fits 64 bits
 pub is_near : (q : Quality) (s : Shown) {n d : ℕ} → n ≡ q.num → n < 2 ^ 64 → d ≡ q.den → d < 2 ^ 64 → s ≡ shown q
-    → (s ≡ shown q) × (0 < q.den → ShownNear q (signed_size s))
-is_near q s en hn ed hd e =
-    (e, λ over. subst (λ x. ShownNear q (signed_size x)) (sym e) (shown_near q (rw en at hn) (rw ed at hd) over))
+    → 0 < q.den → ShownNear q (signed_size s)
+is_near q s en hn ed hd e over = subst (λ x. ShownNear q (signed_size x)) (sym e) (shown_near q (rw en at hn) (rw ed at hd) over)

@@ -18,6 +18,7 @@ pub enum Shown {
 }
 
 // The single quotient of two whole numbers, each rounded to the nearest f64 first.
+#[tactic(auto, unfolding(crate::specs::Page::quotient))]
 fn quotient(num: u64, den: u64) -> f64
     ensures { result ≡ quotient num den }
 {
@@ -26,14 +27,14 @@ fn quotient(num: u64, den: u64) -> f64
 
 impl Shown {
     // What the page shows of a quality.
+    #[tactic(auto, unfolding(crate::specs::Page::shown))]
     pub fn of(quality: Quality) -> Shown
         ensures value { result ≡ shown quality }
         ensures near { 0 < quality.den → ShownNear quality (signed_size result) }
     {
         let num = quality.num();
         let den = quality.den();
-        let kind = quality.kind();
-        match kind {
+        match quality.kind() {
             Kind::Upright => Shown::Upright(quotient(num, den)),
             Kind::Flat => Shown::Flat,
             Kind::Inverted => Shown::Inverted(quotient(num, den)),
@@ -62,6 +63,7 @@ pub struct PageRow {
 }
 
 impl PageRow {
+    #[tactic(auto, unfolding(crate::specs::Page::page_row))]
     pub fn of(before: Shown, after: Shown) -> PageRow
         ensures { result ≡ page_row before after }
     {

@@ -6,6 +6,7 @@ use mathlib.Core.Option.{none}
 use mathlib.Core.Path.{◌≡◌, refl, sym, ap, ◌∙◌, subst}
 use native.Mathlib.Decide.{ℕ_discrete, dec_lt}
 use native.Mathlib.Omega.{arith}
+use Rattle.std.specs.Prelude.{None}
 use lib.Dec.{T}
 use lib.ListN.{length, length-set, get_or, set, get_or-eq_default}
 use lib.Seq.{get_or-set_same, get_or-set_other}
@@ -13,15 +14,16 @@ use Rattle.ring.specs.Ring.{Site, m, min_ring, ring_with}
 use Rattle.triangulation.specs.Admissible.{barred}
 use Rattle.pieces.specs.Steps.{KeepsTable}
 use Rattle.filling.specs.Steps.{Done}
-use Rattle.cells.specs.Steps.{apex_in, coded_apex, cell_at, best_in, read_best}
+use Rattle.cells.specs.declared.Table.{Table}
+use Rattle.cells.specs.Steps.{apex_in, coded_apex, cell_at, best_in, read_best, stored}
 use Rattle.triangulation.specs.Best.{best_worst, apex, barred_piece, table_best, table_apex, same_best}
 use Rattle.triangulation.proofs.Barred.{open_piece, whole_is, other_open}
 use Rattle.cells.proofs.CellPlaces.{cell_apart}
 
 -- A cell keeps what the table keeps of piece (i,j).
-record Told (site : Site) (kinds nums dens apexes : List ℕ) (i j : ℕ) : Type 0 where
-  best : T (same_best (best_in kinds nums dens i j) (table_best site i j))
-  chosen : apex_in apexes i j ≡ table_apex site i j
+record Told (site : Site) (table : Table) (i j : ℕ) : Type 0 where
+  best : T (same_best (best_in table i j) (table_best site i j))
+  chosen : apex_in table.apexes i j ≡ table_apex site i j
 
 -- a cell set to 0 holds 0
 zero_set : (ns : List ℕ) (at : ℕ) → get_or (set ns at 0) at 0 ≡ 0
@@ -31,18 +33,18 @@ zero_set ns at = go (dec_lt at (length ns))
     go (yes h) = get_or-set_same ns at 0 0 h
     go (no h) = get_or-eq_default (set ns at 0) 0 (simp length-set (omega arith))
 
-module _ {site : Site} {kinds nums dens apexes : List ℕ} (done : Done site kinds nums dens apexes)
+module _ {site : Site} {table : Table} (done : Done site table)
     {size : ℕ} (is-size : size ≡ m site) {ring : List ℕ} (is-ring : ring ≡ (ring_with site.ring).v) where
   -- a piece that is not barred, as it was filled
-  told_open : (i j : ℕ) → 1 ≤ i → i + 2 ≤ j → j ≤ m site → barred_piece site i j ≡ false → Told site kinds nums dens apexes i j
+  told_open : (i j : ℕ) → 1 ≤ i → i + 2 ≤ j → j ≤ m site → barred_piece site i j ≡ false → Told site table i j
   told_open i j a b c free =
       record {
-        best = subst (λ s. T (same_best (best_in kinds nums dens i j) (cond s none (best_worst site i j)))) (sym free) (done.best i j a b c);
+        best = subst (λ s. T (same_best (best_in table i j) (cond s none (best_worst site i j)))) (sym free) (done.best i j a b c);
         chosen = done.chosen i j a b c ∙ ap (λ s. cond s none (apex site i j)) (sym free);
       }
 
   pub keeps_open : barred site ≡ false
-      → KeepsTable site (record { m = size; nums = nums; dens = dens; ring = ring; kinds = kinds; apexes = apexes })
+      → KeepsTable site (record { m = size; ring = ring; table = table })
   keeps_open free =
       record {
         length = is-size;
@@ -57,14 +59,18 @@ module _ {site : Site} {kinds nums dens apexes : List ℕ} (done : Done site kin
     abbrev whole : ℕ
     whole = cell_at 1 (m site)
 
-    told_barred : Told site (set kinds whole 0) (set nums whole 0) (set dens whole 0) (set apexes whole 0) 1 (m site)
+    -- the table with the mark there
+    abbrev marked : Table
+    marked = stored table whole None
+
+    told_barred : Told site marked 1 (m site)
     unfolding read_best coded_apex same_best
     told_barred =
         let is : barred_piece site 1 (m site) ≡ true = whole_is site ∙ bars in
-        record { best = rw (zero_set kinds whole, is) tt; chosen = rw (zero_set apexes whole, is) }
+        record { best = rw (zero_set table.kinds whole, is) tt; chosen = rw (zero_set table.apexes whole, is) }
 
     told_other : (i j : ℕ) → 1 ≤ i → i + 2 ≤ j → j ≤ m site → (i ≡ 1 → j ≡ m site → ⊥)
-        → Told site (set kinds whole 0) (set nums whole 0) (set dens whole 0) (set apexes whole 0) i j
+        → Told site marked i j
     told_other i j a b c other =
         let there = cell_at i j in
         let apart : there ≡ whole → ⊥ =
@@ -73,26 +79,24 @@ module _ {site : Site} {kinds nums dens apexes : List ℕ} (done : Done site kin
         other same.0 same.1 in
         let told = told_open i j a b c (other_open site i j other) in
         record {
-          best = rw (get_or-set_other kinds whole there 0 0 apart, get_or-set_other nums whole there 0 0 apart, get_or-set_other dens whole there 0 0 apart)
+          best = rw (get_or-set_other table.kinds whole there 0 0 apart, get_or-set_other table.nums whole there 0 0 apart, get_or-set_other table.dens whole there 0 0 apart)
               told.best;
-          chosen = rw (get_or-set_other apexes whole there 0 0 apart) told.chosen;
+          chosen = rw (get_or-set_other table.apexes whole there 0 0 apart) told.chosen;
         }
 
     told_all : (i j : ℕ) → 1 ≤ i → i + 2 ≤ j → j ≤ m site
-        → Told site (set kinds whole 0) (set nums whole 0) (set dens whole 0) (set apexes whole 0) i j
+        → Told site marked i j
     told_all i j a b c = go (ℕ_discrete i 1) (ℕ_discrete j (m site))
       where
-        go : Dec (i ≡ 1) → Dec (j ≡ m site) → Told site (set kinds whole 0) (set nums whole 0) (set dens whole 0) (set apexes whole 0) i j
+        go : Dec (i ≡ 1) → Dec (j ≡ m site) → Told site marked i j
         go (yes s) (yes t) = rw (s, t) told_barred
         go (yes s) (no t) = told_other i j a b c (λ k. t)
         go (no s) t = told_other i j a b c (λ k l. s k)
 
-    pub keeps_barred : {ks ns ds xs : List ℕ} {at : ℕ}
-        → at ≡ cell_at 1 size
-        → (ks ≡ set kinds at 0) × (ns ≡ set nums at 0) × (ds ≡ set dens at 0) × (xs ≡ set apexes at 0)
-        → KeepsTable site (record { m = size; nums = ns; dens = ds; ring = ring; kinds = ks; apexes = xs })
-    keeps_barred at-whole after =
-        rw (after.0, after.1, after.2, after.3, at-whole, is-size) (record {
+    pub keeps_barred : {after : Table} {at : ℕ} → at ≡ cell_at 1 size → after ≡ stored table at None
+        → KeepsTable site (record { m = size; ring = ring; table = after })
+    keeps_barred at-whole is =
+        rw (is, at-whole, is-size) (record {
           length = refl;
           ring = is-ring;
           best = λ i j a b c. (told_all i j a b c).best;

@@ -9,11 +9,11 @@ use Rattle.pieces.specs.declared.Pieces.{Pieces}
 
 -- the best worst that the table keeps for piece (i,j), or the mark
 abbrev pub kept_best : Pieces → ℕ → ℕ → Option Quality
-kept_best table i j = best_in table.kinds table.nums table.dens i j
+kept_best pieces i j = best_in pieces.table i j
 
 -- the apex that the table keeps for piece (i,j), or the mark
 abbrev pub kept_apex : Pieces → ℕ → ℕ → Option ℕ
-kept_apex table i j = apex_in table.apexes i j
+kept_apex pieces i j = apex_in pieces.table.apexes i j
 
 -- For each piece, the best worst and the chosen apex are kept together with the ring.
 pub record KeepsTable (site : Site) (table : Pieces) : Type 0 where

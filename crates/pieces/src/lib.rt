@@ -5,26 +5,22 @@ ghost use Rattle.pieces.specs.Steps.{KeepsTable};
 ghost use Rattle.kept_faces.specs.Steps.{Fillable};
 ghost use Rattle.triangulation.specs.Steps.{site_in};
 
-use cells::{CELLS, Choice, cell_at};
-use filling::{fill_cells, store};
+use cells::{Table, cell_at};
+use filling::fill_cells;
 use kept_faces::{Rim, gather, uses_across};
-use keys::MOST_KEYS;
+use keys::Keys;
 use ring::{MAX_RING, Ring};
 
-// The ring with, for every piece (i,j), its best worst and its chosen apex, at one place of four flat arrays.
-// kinds: 0 for the mark of a piece without an admissible triangulation, or of a whole chain that a kept row bars; 1 inverted, 2 flat,
-// 3 upright.
+// The ring with, for every piece (i,j), its best worst and its chosen apex.
 #[derive(Clone, Copy)]
 pub struct Pieces {
     pub m: usize,
-    pub nums: [u64; CELLS],
-    pub dens: [u64; CELLS],
     pub ring: [u8; MAX_RING],
-    pub kinds: [u8; CELLS],
-    pub apexes: [u8; CELLS],
+    pub table: Table,
 }
 
 // The best worst and the apex of every piece of a ring, or of a chain.
+// Kept: its parameters one by one, since it asks for less than a RingedEdge (Fillable), and edge_tables calls it with that alone.
 #[inline(never)]
 pub fn fill(
     coordinates: &[u8],
@@ -42,39 +38,16 @@ pub fn fill(
     let m = ring.m as usize;
     let v = ring.v;
     let rim = Rim { a, b, v };
-    let mut keys = [0u32; MOST_KEYS];
-    let found = gather(&mut keys, table, n, rim, m);
-    let mut kinds = [0u8; CELLS];
-    let mut nums = [0u64; CELLS];
-    let mut dens = [0u64; CELLS];
-    let mut apexes = [0u8; CELLS];
-    fill_cells(
-        &mut kinds,
-        &mut nums,
-        &mut dens,
-        &mut apexes,
-        coordinates,
-        rim,
-        &keys,
-        found,
+    let mut keys = Keys::new();
+    gather(&mut keys, table, n, rim, m);
+    let mut pieces = Pieces {
         m,
-    );
-    if uses_across(&keys, found, closed, a, b, v[0], v[m - 1]) {
-        store(
-            &mut kinds,
-            &mut nums,
-            &mut dens,
-            &mut apexes,
-            cell_at(1, m),
-            Choice::Nothing,
-        );
-    }
-    Pieces {
-        m,
-        nums,
-        dens,
         ring: v,
-        kinds,
-        apexes,
+        table: Table::EMPTY,
+    };
+    fill_cells(&mut pieces.table, coordinates, rim, &keys, m);
+    if uses_across(&keys, closed, a, b, v[0], v[m - 1]) {
+        pieces.table.store(cell_at(1, m), None);
     }
+    pieces
 }

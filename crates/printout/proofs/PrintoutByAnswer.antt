@@ -4,12 +4,12 @@ use Prim.Native.Nat.{ℕ, suc, ◌+◌}
 use mathlib.Core.List.{List, ◌++◌, flat_map, append-nil}
 use mathlib.Core.Path.{◌≡◌, refl}
 use borrow.Author.Tests.{eq-eqb, ne_eqb}
+use Rattle.std.specs.Prelude.{Ok}
 use lib.ListN.{length, take, replicate}
 use Rattle.layout.specs.Layout.{block_bytes, byte, fields_of}
 use Rattle.ring.specs.Ring.{Site, site_of}
 use Rattle.summary.specs.declared.Summary.{Summary}
 use Rattle.summary.specs.Summary.{summary_of}
-use Rattle.calls.specs.declared.Summarised.TheVariants.{Summary as Summed}
 use Rattle.calls.specs.Summarising.{summary_gives}
 use Rattle.calls.specs.Removing.{rows_made, remove_answer, remove_bytes}
 use Rattle.lines.specs.Lines.{line, summary_fields, answer_line, ring_line, row_line}
@@ -54,8 +54,8 @@ module _ (input : List ℕ) where
 pub record Reported (block output : List ℕ) (site : Site) : Type 0 where
   pub before : Summary
   pub after : Summary
-  pub before_is : summary_gives block ≡ Summed before
-  pub after_is : summary_gives output ≡ Summed after
+  pub before_is : summary_gives block ≡ Ok before
+  pub after_is : summary_gives output ≡ Ok after
   pub lines : report block output site
       ≡ line "before" (summary_fields before) ++ line "after" (summary_fields after) ++ ring_line site.ring
       ++ flat_map row_line (rows_made site)

@@ -9,7 +9,10 @@ use lib.ListN.{length, length-map}
 use lib.Seq.{take-append_seam}
 use Rattle.lists.specs.Lists.{every}
 use Rattle.lists.proofs.Lists.{every_i}
-use Rattle.page.specs.declared.PageRow.{PageRow}
+use Rattle.std.specs.Prelude.{Ok, Err}
+use Rattle.answers.specs.declared.Refusal.{Refusal}
+use Rattle.answers.specs.Answers.{number_of}
+use Rattle.answers.proofs.Refusals.{given_refused}
 use Rattle.marking.specs.Marking.{dress_by, new_mark}
 use Rattle.layout.specs.Layout.{fields_of}
 use Rattle.layout.specs.Within.{is_byte}
@@ -19,14 +22,12 @@ use Rattle.block.proofs.RightBlocks.{right_block}
 use Rattle.ring.specs.Ring.{Site, site_of, m, min_ring, max_ring, ring_with}
 use Rattle.triangulation.specs.Triangulation.{new_rows}
 use Rattle.triangulation.specs.Best.{chosen}
-use Rattle.calls.specs.declared.Removal.TheVariants.{Done, Refused}
 use Rattle.calls.specs.declared.Removed.{Removed}
-use Rattle.calls.specs.Removing.{remove_answer, remove_bytes, remove_gives, removal_number, rows_made}
+use Rattle.calls.specs.Removing.{remove_answer, remove_bytes, remove_gives, rows_made}
 use Rattle.calls.proofs.CallTests.{removes}
 use Rattle.calls.proofs.SoundEdges.{ring_point}
 use Rattle.accepted.proofs.AcceptedCalls.{remove_accepted}
 use Rattle.accepted.proofs.CallsNumbered.{remove_number}
-use Rattle.accepted.proofs.AfterRemoval.{page_given}
 use Rattle.tables.proofs.RingReplaced.{length_fits}
 use Rattle.lines.specs.Lines.{answer_line}
 use Rattle.report.specs.Steps.{rows_of, removal_lines, Written, Printable}
@@ -35,19 +36,19 @@ use Rattle.printout.specs.Printout.{report}
 
 -- ---- the answer
 
-module _ (block out : List ℕ) (e f : ℕ) (removed : Removed) (gives : removed ≡ remove_gives block out e f) where
+module _ (block out : List ℕ) (e f : ℕ) where
+  -- of a refusal
+  pub refused_answer : {refusal : Refusal} → Err refusal ≡ remove_gives block out e f → remove_answer block out e f ≡ 0 → ⊥
+  unfolding remove_gives
+  refused_answer {refusal} gives = given_refused (remove_answer block out e f) _ refusal (sym gives)
+
   -- its number
-  pub number_is : removal_number removed.removal ≡ remove_answer block out e f
-  number_is = ap (λ (r : Removed). removal_number r.removal) gives ∙ remove_number block out e f
+  pub number_is : {refusal : Refusal} → Err refusal ≡ remove_gives block out e f → refusal.number ≡ remove_answer block out e f
+  number_is gives = ap number_of gives ∙ remove_number block out e f
 
-  pub done_answer : (page : PageRow) → removed.removal ≡ Done page → remove_answer block out e f ≡ 0
-  done_answer page h = sym number_is ∙ ap removal_number h
-
-  pub refused_answer : (n : ℕ) → removed.removal ≡ Refused n → remove_answer block out e f ≡ 0 → ⊥
-  refused_answer n h done =
-      let made = ap (λ (r : Removed). r.removal) (gives ∙ page_given block out e f done) in
-      let w : ◌≡◌ {A = ℕ} 0 1 = cc in
-      omega arith
+  -- of a removal that is done
+  pub done_answer : {removed : Removed} → Ok removed ≡ remove_gives block out e f → remove_answer block out e f ≡ 0
+  done_answer gives = sym (remove_number block out e f) ∙ ap number_of (sym gives)
 
 -- ---- a removal that is done
 

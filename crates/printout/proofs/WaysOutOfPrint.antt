@@ -1,17 +1,18 @@
 -- The program's ways out, each with the text that the definition asks for: a wrong length, a refusal, a report.
 use Prim.Native.Nat.{ℕ, suc, ◌+◌}
 use mathlib.Core.Bool.{Bool, true, false, not}
-use mathlib.Core.List.{List}
+use mathlib.Core.List.{List, []}
 use mathlib.Core.Path.{◌≡◌, sym, ap, ◌∙◌}
 use borrow.Author.Tests.{eqb-true, eqb-false, not-true, not-false}
 use lib.Dec.{eqb}
 use lib.ListN.{length, take, replicate}
-use Rattle.page.specs.declared.PageRow.{PageRow}
+use Rattle.std.specs.Prelude.{Result, Ok, Err}
+use Rattle.answers.specs.declared.Refusal.{Refusal}
 use Rattle.layout.specs.Layout.{block_bytes, byte, fields_of}
+use Rattle.ring.specs.declared.Ring.{Ring}
 use Rattle.ring.specs.Ring.{site_of, ring_with}
-use Rattle.calls.specs.declared.Removal.TheVariants.{Done, Refused}
 use Rattle.calls.specs.declared.Removed.{Removed}
-use Rattle.calls.specs.Removing.{remove_answer, remove_bytes, remove_gives, removal_number}
+use Rattle.calls.specs.Removing.{remove_answer, remove_bytes, remove_gives}
 use Rattle.accepted.proofs.AfterRemoval.{page_given}
 use Rattle.text.specs.declared.Text.{Text}
 use Rattle.lines.specs.Lines.{answer_line}
@@ -21,6 +22,11 @@ use Rattle.text.proofs.BytesBehindAText.{whole_as}
 use Rattle.report.specs.Steps.{rows_of, removal_lines, Written, Printable}
 use Rattle.printout.proofs.ReadOffTheCalls.{number_is, done_answer, refused_answer, printable, both_written, done_lines}
 use Rattle.printout.proofs.PrintoutByAnswer.{printed_length, printed_refusal, printed_done}
+
+-- the ring of a removal
+abbrev ring_given : Result Removed Refusal → Ring
+ring_given (Ok removed) = removed.ring
+ring_given (Err refusal) = ring_with []
 
 -- the test of the length, both ways
 pub right_size : (input : List ℕ) {right : Bool} → right ≡ eqb (length input) (block_bytes + 2)
@@ -49,26 +55,25 @@ module _ (input : List ℕ) where
     abbrev out : List ℕ
     out = replicate block_bytes 0
 
-    module _ (removed : Removed) (gives : removed ≡ remove_gives block out e f) where
-      -- a refusal
-      pub refusal : {n k : ℕ} → removed.removal ≡ Refused n → k ≡ removal_number removed.removal
-          → {text : Text} → Whole (answer_line k) text → Whole (printout input) text
-      refusal {n} h k =
-          let other = refused_answer block out e f removed gives n h in
-          whole_as (printed_refusal input size other ∙ ap answer_line (sym (k ∙ number_is block out e f removed gives)))
+    -- a refusal
+    pub refusal : {refusal : Refusal} → Err refusal ≡ remove_gives block out e f → {k : ℕ} → k ≡ refusal.number
+        → {text : Text} → Whole (answer_line k) text → Whole (printout input) text
+    refusal gives number =
+        whole_as
+        (printed_refusal input size (refused_answer block out e f gives) ∙ ap answer_line (sym (number ∙ number_is block out e f gives)))
 
-      module _ (page : PageRow) (done : removed.removal ≡ Done page) where
-        answer : remove_answer block out e f ≡ 0
-        answer = done_answer block out e f removed gives page done
+    module _ (removed : Removed) (gives : Ok removed ≡ remove_gives block out e f) where
+      answer : remove_answer block out e f ≡ 0
+      answer = done_answer block out e f gives
 
-        module _ (output : List ℕ) (written : output ≡ remove_bytes block out e f) where
-          ring_is_lem : removed.ring ≡ ring_with (site_of (fields_of block) e f).ring
-          ring_is_lem = ap (λ (r : Removed). r.ring) (gives ∙ page_given block out e f answer)
+      module _ (output : List ℕ) (written : output ≡ remove_bytes block out e f) where
+        ring_is_lem : removed.ring ≡ ring_with (site_of (fields_of block) e f).ring
+        ring_is_lem = ap ring_given (gives ∙ page_given block out e f answer)
 
-          -- what a report asks for
-          pub report_asks : Printable removed.ring × Written block output (rows_of removed.ring)
-          report_asks = rw (ring_is_lem, written) (printable block out e f answer, both_written block out e f answer)
+        -- what a report asks for
+        pub report_asks : Printable removed.ring × Written block output (rows_of removed.ring)
+        report_asks = rw (ring_is_lem, written) (printable block out e f answer, both_written block out e f answer)
 
-          -- a report
-          pub reported : {text : Text} → Whole (removal_lines block removed.ring output) text → Whole (printout input) text
-          reported = whole_as (printed_done input size answer ∙ rw (ring_is_lem, written) (sym (done_lines block out e f answer)))
+        -- a report
+        pub reported : {text : Text} → Whole (removal_lines block removed.ring output) text → Whole (printout input) text
+        reported = whole_as (printed_done input size answer ∙ rw (ring_is_lem, written) (sym (done_lines block out e f answer)))

@@ -5,8 +5,8 @@ ghost use Rattle.std.specs.Prelude.{◌≤◌, ◌≡◌, length};
 ghost use Rattle.printout.specs.Printout.{printout};
 ghost use Rattle.text.specs.Texts.{text_bytes, text_of};
 
+use answers::Refusal;
 use layout::BLOCK_BYTES;
-use patch::Removal;
 use report::answered;
 use text::Text;
 
@@ -16,17 +16,15 @@ pub fn print(input: &[u8]) -> Text
     ensures fits { length (printout input.now) ≤ text_bytes }
 {
     if !input::right_length(input) {
-        return answered(answers::LENGTH);
+        return answered(Refusal::LENGTH.number);
     }
     let e = input[BLOCK_BYTES] as usize;
     let f = input[BLOCK_BYTES + 1] as usize;
     let block = &input[0..BLOCK_BYTES];
     let mut output = [0u8; BLOCK_BYTES];
-    let removed = patch::remove(block, e, f, &mut output);
-    let removal = removed.removal;
-    let ring = removed.ring;
-    let Removal::Done(_) = removal else {
-        return answered(removal.number());
+    let given = patch::remove(block, e, f, &mut output);
+    let Ok(removed) = given else {
+        return answered(answers::number(&given));
     };
-    report::removed(block, ring, &output)
+    report::removed(block, removed.ring, &output)
 }

@@ -1,16 +1,15 @@
--- The quality by D and S, put together from what the code computes: the sign of D tells the clause, and 432·D² and S³ fit.
+-- The quality by D and S, put together from what the code computes: the sign of D tells the clause.
 use mathlib.Core.Bool.{true, false}
 use mathlib.Core.Path.{◌≡◌, refl, sym, ap, ◌∙◌}
-use Prim.Native.Nat.{ℕ, zero, suc, ◌*◌, ◌^◌, ◌≤◌}
-use native.Mathlib.Nat.{not-suc-le-zero, mul-le-mul, mul-le-mul_left, pow-le-pow_left}
+use Prim.Native.Nat.{ℕ, zero, suc, ◌*◌, ◌^◌}
+use native.Mathlib.Nat.{not-suc-le-zero}
 use borrow.Author.Tests.{ltb-true}
 use lib.IntN.{ℤ, pos, negsuc, nat_abs}
 use lib.Signed.{lt_z}
 use mir.Syntax.{w64}
-use mir.Val.{Fits, SFits, to_z, of_z}
-use mir.Facts.{to_z-of_z, Fits-below}
+use mir.Val.{SFits, to_z, of_z}
+use mir.Facts.{to_z-of_z}
 use Rattle.lists.proofs.Tests.{is_no}
-use Rattle.volume.specs.Steps.{volume_limit, spread_limit}
 use Rattle.volume.proofs.PointPolynomials.{cube_is}
 use Rattle.quality.specs.declared.Kind.{Kind}
 use Rattle.quality.specs.declared.Kind.TheVariants.{Upright, Inverted}
@@ -41,12 +40,3 @@ unfolding quality_of
 upright_is (pos zero) s n e f h = absurd (f refl)
 upright_is (pos (suc d)) s n e f h = fraction_is Upright (suc d) s n e
 upright_is (negsuc d) s n e f h = absurd (is_no true h)
-
-pub num_fits : (d : ℤ) (n : ℕ) → n ≡ nat_abs d ^ 2 → nat_abs d ≤ volume_limit → Fits w64 (quality_factor * n)
-num_fits d n e h = Fits-below {n = quality_factor * volume_limit ^ 2} tt (rw e (mul-le-mul_left quality_factor (pow-le-pow_left h 2)))
-
-pub square_den_fits : (s : ℕ) → s ≤ spread_limit → Fits w64 (s * s)
-square_den_fits s h = Fits-below {n = spread_limit * spread_limit} tt (mul-le-mul h h)
-
-pub cube_den_fits : (s : ℕ) → s ≤ spread_limit → Fits w64 (s * s * s)
-cube_den_fits s h = Fits-below {n = spread_limit * spread_limit * spread_limit} tt (mul-le-mul (mul-le-mul h h) h)

@@ -54,22 +54,12 @@ impl Quality {
         }
         let num = QUALITY_FACTOR * volume::square(d);
         let den = s * s * s;
-        if d < 0 {
-            Quality {
-                kind: Kind::Inverted,
-                num,
-                den,
-            }
-        } else {
-            Quality {
-                kind: Kind::Upright,
-                num,
-                den,
-            }
-        }
+        let kind = if d < 0 { Kind::Inverted } else { Kind::Upright };
+        Quality { kind, num, den }
     }
 
     // A quality by its parts, as another has them.
+    #[tactic(auto, unfolding(crate::specs::Steps::from_parts))]
     pub fn of_parts(kind: Kind, num: u64, den: u64) -> Quality
         ensures { result ≡ from_parts kind num den }
     {
@@ -103,11 +93,9 @@ impl Quality {
     fn over(self) -> u64
         ensures { result ≡ cond (is_upright self) self.num 0 }
     {
-        let kind = self.kind;
-        match kind {
+        match self.kind {
             Kind::Upright => self.num,
-            Kind::Flat => 0,
-            Kind::Inverted => 0,
+            Kind::Flat | Kind::Inverted => 0,
         }
     }
 
@@ -115,22 +103,19 @@ impl Quality {
     fn under(self) -> u64
         ensures { result ≡ cond (is_inverted self) self.num 0 }
     {
-        let kind = self.kind;
-        match kind {
-            Kind::Upright => 0,
-            Kind::Flat => 0,
+        match self.kind {
+            Kind::Upright | Kind::Flat => 0,
             Kind::Inverted => self.num,
         }
     }
 
     // Whether this quality is the worse of the two: less far over 0, or farther below it.
+    // Kept: no PartialOrd, whose laws `worse` breaks at a denominator of 0: 0/0 ties with 1/1 and with 2/1, which do not tie.
     pub fn worse(self, other: Quality) -> bool
         ensures { result ≡ worse self other }
     {
-        if exact::less(self.over(), self.den, other.over(), other.den) {
-            return true;
-        }
-        exact::less(other.under(), other.den, self.under(), self.den)
+        exact::less(self.over(), self.den, other.over(), other.den)
+            || exact::less(other.under(), other.den, self.under(), self.den)
     }
 
     // The worse of the two; of equals this one.

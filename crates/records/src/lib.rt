@@ -6,7 +6,63 @@
 #![tactic(auto)]
 
 ghost use Rattle.std.specs.Prelude.{◌+◌, ◌≤◌, ◌<◌, ◌≡◌, length};
-ghost use Rattle.records.specs.Records.{two_at, four_at, number_at, record_bytes, number_in, four_numbers, count_in, figure_in, length_at};
+ghost use Rattle.records.specs.Records.{part_in, number_at, number_in, four_numbers, count_in, figure_in, length_at};
+ghost use Rattle.records.specs.StoredCalls.{HasNumber};
+
+use std::fmt;
+
+// The call of a record, which is stored as its number from 0 on.
+#[derive(Clone, Copy)]
+pub enum Call {
+    Open,
+    Seal,
+    Summary,
+    Remove,
+    Flip,
+}
+
+// A number of no call.
+#[derive(Clone, Copy)]
+pub struct UnknownCall(pub u8);
+
+impl Call {
+    pub const ALL: [Call; 5] = [
+        Call::Open,
+        Call::Seal,
+        Call::Summary,
+        Call::Remove,
+        Call::Flip,
+    ];
+}
+
+impl TryFrom<u8> for Call {
+    type Error = UnknownCall;
+
+    ghost try_from_gives = { HasNumber };
+
+    fn try_from(number: u8) -> Result<Self, UnknownCall> {
+        match number {
+            0 => Ok(Call::Open),
+            1 => Ok(Call::Seal),
+            2 => Ok(Call::Summary),
+            3 => Ok(Call::Remove),
+            4 => Ok(Call::Flip),
+            _ => Err(UnknownCall(number)),
+        }
+    }
+}
+
+impl fmt::Display for Call {
+    fn fmt<W: fmt::Write>(&self, f: &mut fmt::Formatter<W>) -> fmt::Result {
+        f.write_str(match self {
+            Call::Open => "open",
+            Call::Seal => "seal",
+            Call::Summary => "summary",
+            Call::Remove => "remove",
+            Call::Flip => "flip",
+        })
+    }
+}
 
 pub const CALL_AT: usize = 0;
 
@@ -42,20 +98,12 @@ pub const PART_BYTES: usize = 520;
 
 pub const RECORD_BYTES: usize = 1152;
 
-// The number in two bytes.
-fn two_at(stored: &[u8], at: usize) -> u64
-    requires { at + 2 ≤ length stored.now }
-    ensures { (result ≡ two_at stored.now at) × (result < 65536) }
+// N bytes from a place on.
+fn bytes_at<const N: usize>(stored: &[u8], at: usize) -> [u8; N]
+    requires { at + N ≤ length stored.now }
+    ensures { result ≡ part_in stored.now at N }
 {
-    stored[at] as u64 + 256 * (stored[at + 1] as u64)
-}
-
-// The number in four bytes.
-fn four_at(stored: &[u8], at: usize) -> u64
-    requires { at + 4 ≤ length stored.now }
-    ensures { (result ≡ four_at stored.now at) × (result < 4294967296) }
-{
-    two_at(stored, at) + 65536 * two_at(stored, at + 2)
+    *stored[at..].first_chunk().unwrap()
 }
 
 // The number in eight bytes.
@@ -63,20 +111,19 @@ fn number_at(stored: &[u8], at: usize) -> u64
     requires { at + 8 ≤ length stored.now }
     ensures { result ≡ number_at stored.now at }
 {
-    four_at(stored, at) + 4294967296 * four_at(stored, at + 4)
+    u64::from_le_bytes(bytes_at(stored, at))
 }
 
 // Number i of the edge or the flip.
-pub fn number(stored: &[u8], i: usize) -> usize
-    requires { (length stored.now ≡ record_bytes) × (i < 4) }
+pub fn number(stored: &[u8; RECORD_BYTES], i: usize) -> usize
+    requires { i < 4 }
     ensures { result ≡ number_in stored.now i }
 {
     number_at(stored, NUMBERS_AT + 8 * i) as usize
 }
 
 // Room for the numbers of a flip, all of it filled.
-pub fn numbers(stored: &[u8]) -> [usize; MOST_NUMBERS]
-    requires { length stored.now ≡ record_bytes }
+pub fn numbers(stored: &[u8; RECORD_BYTES]) -> [usize; MOST_NUMBERS]
     ensures { result ≡ four_numbers stored.now }
 {
     [
@@ -88,20 +135,15 @@ pub fn numbers(stored: &[u8]) -> [usize; MOST_NUMBERS]
 }
 
 // How many of them the flip is given.
-pub fn count(stored: &[u8]) -> usize
-    requires { length stored.now ≡ record_bytes }
+pub fn count(stored: &[u8; RECORD_BYTES]) -> usize
     ensures { result ≡ count_in stored.now }
 {
-    let n = stored[COUNT_AT] as usize;
-    if n <= MOST_NUMBERS {
-        return n;
-    }
-    MOST_NUMBERS
+    (stored[COUNT_AT] as usize).min(MOST_NUMBERS)
 }
 
 // Number i of the summary, or of the bits of the page row.
-pub fn figure(stored: &[u8], i: usize) -> u64
-    requires { (length stored.now ≡ record_bytes) × (i < 7) }
+pub fn figure(stored: &[u8; RECORD_BYTES], i: usize) -> u64
+    requires { i < 7 }
     ensures { result ≡ figure_in stored.now i }
 {
     number_at(stored, FIGURES_AT + 8 * i)
@@ -112,9 +154,5 @@ pub fn length_at(stored: &[u8], at: usize) -> usize
     requires { at + 2 ≤ length stored.now }
     ensures { result ≡ length_at stored.now at }
 {
-    let n = two_at(stored, at) as usize;
-    if n <= PART_BYTES {
-        return n;
-    }
-    PART_BYTES
+    (u16::from_le_bytes(bytes_at(stored, at)) as usize).min(PART_BYTES)
 }

@@ -1,6 +1,6 @@
 -- What only contracts of inner functions and proofs say: the apexes of the chosen triangulation, and what carrying it out asks for.
-use Rattle.std.specs.Prelude.{ℕ, ◌-◌, ◌<◌, ◌≤◌, min, max, Bool, false, List, ◌≡◌, T, length}
-use Rattle.std.proofs.Math.Option.{some}
+use Rattle.std.specs.Prelude.{ℕ, ◌-◌, ◌<◌, ◌≤◌, min, max, Bool, false, List, ◌≡◌, T, length, Option as Optional, None, Some, IfSome}
+use Rattle.std.proofs.Math.Option.{Option, none, some}
 use Rattle.quality.specs.declared.Quality.{Quality}
 use Rattle.rows.specs.Rows.{version}
 use Rattle.rows.specs.Regions.{region_of}
@@ -10,7 +10,7 @@ use Rattle.ring.specs.Ring.{Site, m}
 use Rattle.triangulation.specs.Triangulation.{span, rows_after}
 use Rattle.triangulation.specs.Best.{table_best, chosen, same_best}
 use Rattle.triangulation.specs.Steps.{site_in}
-use Rattle.cells.specs.Steps.{best_of, cells}
+use Rattle.cells.specs.Steps.{cells}
 use Rattle.expansion.specs.Steps.{Between, tree_in}
 use Rattle.calls.specs.Removing.{no_way}
 use Rattle.edge.specs.Steps.{Ringed}
@@ -22,11 +22,16 @@ pub record StandFor (site : Site) (apexes : List ℕ) : Type 0 where
   pub tree : tree_in apexes 1 (m site) ≡ chosen site
   pub spans : span (chosen site) ≡ m site - 1
 
+-- the worst of a way, or the mark
+abbrev pub worst_of : Optional Way → Option Quality
+worst_of None = none
+worst_of (Some way) = some way.worst
+
 -- The best worst of the ring or chain, as a fraction, or the mark; and, where there is no mark, the apexes of the chosen triangulation.
-pub record BestWay (site : Site) (way : Way) : Type 0 where
-  pub best : T (same_best (best_of way.best) (table_best site 1 (m site)))
-  pub fraction : (q : Quality) → best_of way.best ≡ some q → 0 < q.den
-  pub apexes : (q : Quality) → best_of way.best ≡ some q → StandFor site way.apexes
+pub record BestWay (site : Site) (way : Optional Way) : Type 0 where
+  pub best : T (same_best (worst_of way) (table_best site 1 (m site)))
+  pub fraction : IfSome way (λ way. 0 < way.worst.den)
+  pub apexes : IfSome way (λ way. StandFor site way.apexes)
 
 -- There is room for the chosen triangulation, the region is that of the rows that go, the apexes stand for it, and the block it is carried
 -- out in has the version of the table.

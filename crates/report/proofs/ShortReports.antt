@@ -10,14 +10,13 @@ use mir.Syntax.{w8}
 use mir.Val.{Fits}
 use lib.Dec.{T, eqb, leb, lt→ltb, ltb→lt}
 use lib.ListN.{length, take, drop, length-append, length-map, length-take, length-drop}
+use Rattle.std.specs.Prelude.{None, Some}
 use Rattle.lists.specs.Lists.{every, largest, count}
 use Rattle.lists.proofs.Counts.{count_most}
 use Rattle.lists.proofs.Lists.{every_i, every_drop, every_weaken}
 use Rattle.lists.proofs.Numbers.{largest_within}
 use Rattle.lists.proofs.Tests.{yes_is}
 use Rattle.quality.specs.declared.Quality.{Quality}
-use Rattle.score.specs.declared.WorstScore.TheVariants.{Worst, NoRows}
-use Rattle.score.specs.declared.Octave.TheVariants.{Exponent, NoUpright}
 use Rattle.quality.specs.Quality.{is_upright, is_flat, is_inverted, worst}
 use Rattle.score.specs.Score.{highest_score, score_factor, octave_limit, score, score_of, worst_score, octave_of, octave, total_badness}
 use Rattle.rows.specs.Rows.{row_in}
@@ -34,13 +33,13 @@ use Rattle.summary.specs.Summary.{summary_of}
 use Rattle.ring.specs.declared.Ring.{Ring}
 use Rattle.text.specs.Texts.{text_bytes}
 use Rattle.text.proofs.DecimalDigits.{three_digits, four_digits, small}
-use Rattle.lines.specs.Lines.{text, mark, score_field, octave_field, ring_line}
+use Rattle.lines.specs.Lines.{text, mark, score_field, number_or_mark, ring_line}
 use Rattle.lines.proofs.LineLengths.{small_row, SmallSummary, answer_size, ring_size, rows_size, summary_size}
 use Rattle.report.specs.Steps.{first_lines, last_lines, rows_of, removal_lines, flip_lines, Written, Printable}
 
 -- ---- both summaries
 
-score_short : (q : Quality) → length (score_field (Worst (score q))) ≤ 4
+score_short : (q : Quality) → length (score_field (Some (score q))) ≤ 4
 unfolding score_of
 score_short q = four_digits (score_of q) (go (is_upright q))
   where
@@ -56,18 +55,18 @@ worst_short : (qs : List Quality) → length (score_field (worst_score qs)) ≤ 
 unfolding worst_score
 worst_short qs = go (worst qs)
   where
-    go : (o : Option Quality) → length (score_field (elim o [ none ↦ NoRows | some q ↦ Worst (score q) ])) ≤ 4
+    go : (o : Option Quality) → length (score_field (elim o [ none ↦ None | some q ↦ Some (score q) ])) ≤ 4
     go none = omega (arith, mark_size)
     go (some q) = score_short q
 
-octave_short : (qs : List Quality) → length (octave_field (octave qs)) ≤ 3
+octave_short : (qs : List Quality) → length (number_or_mark (octave qs)) ≤ 3
 unfolding octave octave_of
 octave_short qs = go (eqb (count is_upright qs) 0)
   where
     limited : octave_of (count is_upright qs) (total_badness qs) < 1000
     limited = omega (arith, largest_within (λ e. leb (2 ^ e * count is_upright qs) (total_badness qs)) octave_limit)
 
-    go : (b : Bool) → length (octave_field (cond b NoUpright (Exponent (octave_of (count is_upright qs) (total_badness qs))))) ≤ 3
+    go : (b : Bool) → length (number_or_mark (cond b None (Some (octave_of (count is_upright qs) (total_badness qs))))) ≤ 3
     go true = omega (arith, mark_size)
     go false = three_digits _ limited
 

@@ -9,7 +9,6 @@ ghost use Rattle.text.specs.Steps.{held, Behind, Whole};
 ghost use Rattle.report.specs.Steps.{first_lines, last_lines, rows_of, removal_lines, flip_lines, Written, Printable};
 
 use lines::{put_answer, put_ring, put_rows, put_summary};
-use patch::Summarised;
 use ring::Ring;
 use text::{Text, no_text, put_word};
 
@@ -26,12 +25,12 @@ fn first_lines(block: &[u8], output: &[u8]) -> Text
     ensures { result ≡ held (first_lines block.now output.now) }
 {
     let given = patch::summary(block);
-    let Summarised::Summary(before) = given else {
-        return answered(given.number());
+    let Ok(before) = given else {
+        return answered(answers::number(&given));
     };
     let written = patch::summary(output);
-    let Summarised::Summary(after) = written else {
-        return answered(written.number());
+    let Ok(after) = written else {
+        return answered(answers::number(&written));
     };
     let first = put_summary(put_word(put_answer(no_text(), 0), b"before"), before);
     put_summary(put_word(first, b"after"), after)

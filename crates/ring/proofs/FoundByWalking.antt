@@ -11,6 +11,7 @@ use borrow.Author.Tests.{eq-eqb, ne_eqb}
 use lib.Dec.{T, not_T}
 use lib.ListN.{length, length-map}
 use lib.Seq.{length-take-le}
+use Rattle.std.specs.Prelude.{Err}
 use Rattle.lists.specs.Lists.{every, those, has, different}
 use Rattle.lists.proofs.Tests.{yes_is, no_is}
 use Rattle.lists.proofs.Lists.{every_at, every_i}
@@ -28,7 +29,7 @@ use Rattle.links.specs.Links.{Link, link, starts, ends}
 use Rattle.walk.specs.Walk.{circle, closes, all_close, circle_of, heads, follow, chain_of}
 use Rattle.ring.specs.Ring.{Site}
 use Rattle.ring.specs.Ring.{site_of, edge_missing, whole, rings_alone, or_chains, link_open, many_circles, length_wrong}
-use Rattle.ring.specs.Steps.{found_of, refused_with, sized_of, edge_in}
+use Rattle.ring.specs.Steps.{found_of, sized_of, edge_in}
 use Rattle.walk.specs.Steps.{went_by, walked, StartsAt}
 use Rattle.ring.specs.Ring.{ring_tests}
 use Rattle.links.specs.Links.{links_of}
@@ -43,17 +44,17 @@ use Rattle.ring.proofs.OneRing.{ring_circle}
 -- ---- the first refusal
 
 module _ (chains : Bool) (site : Site) where
-  found_10 : edge_missing site ≡ true → found_of chains site ≡ refused_with 10
+  found_10 : edge_missing site ≡ true → found_of chains site ≡ Err (record { number = 10 })
   unfolding found_of ring_tests first_refusal
   found_10 p = rw p
 
   module _ (held : edge_missing site ≡ false) where
-    found_11 : link_open chains site ≡ true → found_of chains site ≡ refused_with 11
+    found_11 : link_open chains site ≡ true → found_of chains site ≡ Err (record { number = 11 })
     unfolding found_of ring_tests first_refusal
     found_11 q = rw (held, q)
 
     module _ (taken : link_open chains site ≡ false) where
-      found_12 : many_circles site ≡ true → found_of chains site ≡ refused_with 12
+      found_12 : many_circles site ≡ true → found_of chains site ≡ Err (record { number = 12 })
       unfolding found_of ring_tests first_refusal
       found_12 r = rw (held, taken, r)
 
@@ -95,7 +96,7 @@ module _ (site : Site) (law : Ruled site) where
   start_count : length (starts links) ≡ length links
   start_count = length-map links (λ l. l.0)
 
-  found_none_lem : (chains : Bool) → length links ≡ 0 → found_of chains site ≡ refused_with 10
+  found_none_lem : (chains : Bool) → length links ≡ 0 → found_of chains site ≡ Err (record { number = 10 })
   found_none_lem chains h = found_10 chains site (eq-eqb (length site.removed) 0 (omega (arith, law.count)))
 
   module _ (some_link : 0 < length links) (v : ℕ) (start : StartsAt links v) where
@@ -139,7 +140,7 @@ module _ (site : Site) (law : Ruled site) where
       closed_taken chains = rw all_closed
 
       -- it has left links out
-      found_many : (chains : Bool) → length points < length links → found_of chains site ≡ refused_with 12
+      found_many : (chains : Bool) → length points < length links → found_of chains site ≡ Err (record { number = 12 })
       unfolding many_circles whole
       found_many chains l =
           found_12 chains site held (closed_taken chains) (ap not (no_is (whole site) (not_T (whole site) (λ t.
@@ -178,7 +179,7 @@ module _ (site : Site) (law : Ruled site) where
       chain_is = law.ring ∙ ap (λ c. cond c (circle_of links) (chain_of links)) (sym law.closed ∙ unclosed)
 
       -- where rings alone are taken
-      found_alone : found_of rings_alone site ≡ refused_with 11
+      found_alone : found_of rings_alone site ≡ Err (record { number = 11 })
       unfolding link_open
       found_alone = found_11 rings_alone site held (rw unclosed)
 
@@ -189,7 +190,7 @@ module _ (site : Site) (law : Ruled site) where
             subst (λ ps. Runs links v ps) (sym (followed ∙ run_followed links w)) w
 
         -- it has left links out
-        found_broken : length points ≤ length links → found_of or_chains site ≡ refused_with 11
+        found_broken : length points ≤ length links → found_of or_chains site ≡ Err (record { number = 11 })
         unfolding link_open whole
         found_broken l =
             let broken : whole site ≡ false = no_is (whole site) (not_T (whole site) (λ t.
@@ -248,7 +249,7 @@ module _ {table : List ℕ} {n a b : ℕ} (g : Gathered table n a b) where
   link_count : length (edge_in (rows_in table n) a b).links ≡ g.links.n
   link_count = sym (ap length links_are) ∙ in_length g.links
 
-  pub gives_10 : (chains : Bool) → g.links.n ≡ 0 → refused_with 10 ≡ found_of chains (edge_in (rows_in table n) a b)
+  pub gives_10 : (chains : Bool) → g.links.n ≡ 0 → Err (record { number = 10 }) ≡ found_of chains (edge_in (rows_in table n) a b)
   gives_10 chains h = sym (found_none_lem _ table_ruled chains (omega (arith, link_count)))
 
 module _ {table : List ℕ} {n a b : ℕ} (gone : Gone table n a b) where
@@ -275,7 +276,7 @@ module _ {table : List ℕ} {n a b : ℕ} (gone : Gone table n a b) where
     goes : circle its.links gone.v ≡ some (went_by gone.trail)
     goes = circle_is ∙ rw closed
 
-    pub gives_12 : (chains : Bool) → gone.trail.m < gone.gathered.links.n → refused_with 12 ≡ found_of chains its
+    pub gives_12 : (chains : Bool) → gone.trail.m < gone.gathered.links.n → Err (record { number = 12 }) ≡ found_of chains its
     gives_12 chains l =
         sym (found_many its law_of some_here gone.v starts_here _ goes chains (omega (arith, size, link_count gone.gathered)))
 
@@ -293,10 +294,10 @@ module _ {table : List ℕ} {n a b : ℕ} (gone : Gone table n a b) where
     followed : went_by gone.trail ≡ follow (length its.links) its.links gone.v
     followed = gone.ended ended ∙ rw (links_are gone.gathered, link_count gone.gathered)
 
-    pub gives_alone : {chains : Bool} → chains ≡ false → refused_with 11 ≡ found_of chains its
+    pub gives_alone : {chains : Bool} → chains ≡ false → Err (record { number = 11 }) ≡ found_of chains its
     gives_alone c = rw c (sym (found_alone its law_of some_here gone.v starts_here stops))
 
-    pub gives_broken : {chains : Bool} → chains ≡ true → gone.trail.m ≤ gone.gathered.links.n → refused_with 11 ≡ found_of chains its
+    pub gives_broken : {chains : Bool} → chains ≡ true → gone.trail.m ≤ gone.gathered.links.n → Err (record { number = 11 }) ≡ found_of chains its
     gives_broken c l =
         rw c (sym (found_broken its law_of some_here gone.v starts_here stops _ followed
         (omega (arith, size, link_count gone.gathered))))

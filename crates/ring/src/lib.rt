@@ -6,9 +6,9 @@ ghost use Rattle.rows.specs.Rows.{rows_in};
 ghost use Rattle.links.specs.Steps.{Table};
 ghost use Rattle.walk.specs.Steps.{went_by};
 ghost use Rattle.ring.specs.Ring.{max_ring, ring_with};
-ghost use Rattle.ring.specs.Steps.{refused_with, sized_of, found_of, edge_in};
+ghost use Rattle.ring.specs.Steps.{sized_of, found_of, edge_in};
 
-use answers::Answer;
+use answers::Refusal;
 use rows::Regions;
 use walk::{MOST_POINTS, Trail};
 
@@ -32,11 +32,9 @@ impl Ring {
     };
 }
 
-// What finding gives: the answer and, if it is done, whether the links close, the ring or the chain, and the regions of its rows; with a
-// refusal it has no points and no rows.
+// What finding gives: whether the links close, the ring or the chain, and the regions of its rows.
 #[derive(Clone, Copy)]
 pub struct Found {
-    pub answer: Answer,
     pub closed: bool,
     pub ring: Ring,
     pub regions: Regions,
@@ -48,49 +46,34 @@ fn ring_of(v: [u8; MOST_POINTS], m: usize) -> Ring
     ensures { result ≡ ring_with (take m v) }
 {
     let mut ring = [0; MAX_RING];
-    for i in 0..m {
-        ring[i] = v[i];
-    }
+    ring[..m].copy_from_slice(&v[..m]);
     Ring {
         m: m as u8,
         v: ring,
     }
 }
 
-// A refusal, with its number and nothing else.
-fn refused(number: u8) -> Found
-    ensures { result ≡ refused_with number }
-{
-    Found {
-        answer: Answer::Refused(number),
-        closed: false,
-        ring: Ring::EMPTY,
-        regions: Regions::One(0),
-    }
-}
-
 // The ring or the chain of the points that a walk went by, with the regions of its rows, or 13.
-fn sized(trail: Trail, regions: Regions) -> Found
+fn sized(trail: Trail, regions: Regions) -> Result<Found, Refusal>
     requires { trail.m ≤ length trail.v }
     ensures { result ≡ sized_of trail.closed (went_by trail) regions }
 {
     if trail.m < MIN_RING {
-        return refused(answers::RING_LENGTH);
+        return Err(Refusal::RING_LENGTH);
     }
     if MAX_RING < trail.m {
-        return refused(answers::RING_LENGTH);
+        return Err(Refusal::RING_LENGTH);
     }
     let v = trail.v;
-    Found {
-        answer: Answer::Done,
+    Ok(Found {
         closed: trail.closed,
         ring: ring_of(v, trail.m),
         regions,
-    }
+    })
 }
 
 // The ring round the edge a, b in the first n rows of a table or, where chains are taken, the chain; or the refusal: 10, 11, 12 or 13.
-pub fn find(table: &[u8], n: usize, a: u8, b: u8, chains: bool) -> Found
+pub fn find(table: &[u8], n: usize, a: u8, b: u8, chains: bool) -> Result<Found, Refusal>
     requires { Table table.now n a b }
     ensures { result ≡ found_of chains (edge_in (rows_in table.now n) a b) }
 {
@@ -98,20 +81,20 @@ pub fn find(table: &[u8], n: usize, a: u8, b: u8, chains: bool) -> Found
     let links = round.links;
     let regions = round.regions;
     if links.n == 0 {
-        return refused(answers::NOT_HELD);
+        return Err(Refusal::NOT_HELD);
     }
     let trail = walk::walk(table, a, b, links, walk::first_point(links));
     if trail.closed {
         if trail.m < links.n {
-            return refused(answers::CIRCLES);
+            return Err(Refusal::CIRCLES);
         }
         return sized(trail, regions);
     }
     if !chains {
-        return refused(answers::NOT_CLOSED);
+        return Err(Refusal::NOT_CLOSED);
     }
     if trail.m <= links.n {
-        return refused(answers::NOT_CLOSED);
+        return Err(Refusal::NOT_CLOSED);
     }
     sized(trail, regions)
 }

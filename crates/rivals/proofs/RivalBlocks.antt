@@ -21,7 +21,7 @@ use Rattle.demands.specs.Summaries.{uprights}
 use Rattle.demands.specs.Premises.{Premises}
 use Rattle.demands.proofs.PremisesMet.{premises_by}
 use Rattle.facts.specs.AllDefinitions.{definitions}
-use Rattle.facts.specs.Facts.{row, blank, block_a_with, block_a, octahedron}
+use Rattle.facts.specs.Facts.{blank, block_a_with, block_a, octahedron}
 use Rattle.plate.specs.Plate.{plate_points, plate_rows, plate}
 use Rattle.rivals.specs.Useless.{six, six_best, fan_first, fan_last, fanned, table_fanned}
 

@@ -7,6 +7,7 @@ use mathlib.Core.Path.{◌≡◌, sym, ap, ◌∙◌, subst}
 use native.Mathlib.Omega.{arith}
 use lib.Dec.{T, T_not}
 use lib.ListN.{length}
+use Rattle.std.specs.Prelude.{Result, Ok, Err}
 use Rattle.lists.specs.Lists.{every, those}
 use Rattle.quality.specs.declared.Quality.{Quality}
 use Rattle.quality.specs.Quality.{worst, worse, zero_quality}
@@ -16,14 +17,15 @@ use Rattle.rows.specs.Rows.{version, holds_edge}
 use Rattle.marking.specs.Marking.{new_mark, dressed}
 use Rattle.layout.specs.Layout.{max_rows, fields_of, bytes_of}
 use Rattle.layout.proofs.CellsReadBack.{roomy}
+use Rattle.answers.specs.declared.Refusal.{Refusal}
+use Rattle.answers.specs.Answers.{gives, number_of}
 use Rattle.block.proofs.RightBlocks.{right_block}
+use Rattle.summary.specs.declared.Summary.{Summary}
 use Rattle.ring.specs.Ring.{Site, site_of}
 use Rattle.triangulation.specs.Triangulation.{Tri, Triangle, triangles}
 use Rattle.triangulation.specs.Best.{worst_of_way}
 use Rattle.kept_marks.proofs.DressedRows.{dress_qualities}
-use Rattle.calls.specs.declared.Summarised.{Summarised}
-use Rattle.calls.specs.declared.Summarised.TheVariants.{Summary as Summed, Refused as NoSummary}
-use Rattle.calls.specs.Removing.{rows_made, remove_answer, remove_gives, removal_number}
+use Rattle.calls.specs.Removing.{rows_made, remove_answer, remove_gives}
 use Rattle.demands.specs.Kernels.{removes}
 use Rattle.demands.specs.TriangleSets.{rows_of, table_made, worst_by, NoneBetter}
 use Rattle.demands.specs.Premises.{edge_at}
@@ -37,7 +39,7 @@ use Rattle.demands.proofs.Demand3.{demand_3}
 use Rattle.facts.specs.Facts.{blank, block_a, octahedron}
 use Rattle.plate.specs.Plate.{plate}
 use Rattle.rivals.specs.Useless.{refusing, fixing, copying, inventing}
-use Rattle.rivals.specs.Useless.{fanning, fan_first, fan_last, fanned, table_fanned, given_by, answered, six, six_best}
+use Rattle.rivals.specs.Useless.{fanning, fan_first, fan_last, fanned, table_fanned, given_by, six, six_best}
 use Rattle.rivals.proofs.RivalBlocks.{opens_A, bytes_A, done_A, points_A, rows_A, left_A, upright_A, premises_A}
 use Rattle.rivals.proofs.RivalBlocks.{opens_octahedron, bytes_octahedron, upright_octahedron, done_plate, points_plate}
 use Rattle.rivals.proofs.RivalBlocks.{six_site, premises_six, two_six, best_six, alone_six, opens_six, done_six}
@@ -57,7 +59,7 @@ refuses_all number meets =
 -- ---- one with a fixed block for an answer, and one that copies its input: demand 2
 
 -- a removal with our answers is done where ours is
-pub done_too : (block : List ℕ) → remove_answer block blank 0 1 ≡ 0 → removal_number (remove_gives block blank 0 1).removal ≡ 0
+pub done_too : (block : List ℕ) → remove_answer block blank 0 1 ≡ 0 → number_of (remove_gives block blank 0 1) ≡ 0
 done_too block h = remove_number block blank 0 1 ∙ h
 
 pub fixed_block : (fixed : List ℕ) → Demand2 (fixing fixed) → ⊥
@@ -78,9 +80,9 @@ copied_input meets =
 -- ---- one with invented summary counts: demand 2
 
 -- the upright rows that a summary counts
-abbrev upright_in : Summarised → ℕ
-upright_in (Summed summary) = summary.upright
-upright_in (NoSummary n) = 0
+abbrev upright_in : Result Summary Refusal → ℕ
+upright_in (Ok summary) = summary.upright
+upright_in (Err refusal) = 0
 
 pub invented_counts : (upright flat inverted : ℕ) → Demand2 (inventing upright flat inverted) → ⊥
 invented_counts upright flat inverted meets =
@@ -108,7 +110,7 @@ module _ (fan : ℕ → Tri) (room : length (table_fanned fan six_site) ≤ max_
     (fit : T (every (roomy (version (bytes_of 1 six))) (table_fanned fan six_site))) where
   -- the fan is carried out, and written as it should
   fan_done : removes (fanning fan) (bytes_of 1 six) blank 0 1 ≡ 0
-  fan_done = ap (λ (n : ℕ). removal_number (answered (given_by fan (fields_of (bytes_of 1 six)) six_site) n).removal) done_six
+  fan_done = ap (λ (n : ℕ). number_of (gives n (given_by fan (fields_of (bytes_of 1 six)) six_site))) done_six
 
   fan_written : (fields_of ((fanning fan).remove (bytes_of 1 six) blank 0 1).1).rows ≡ table_fanned fan six_site
   unfolding site_of

@@ -5,14 +5,14 @@ use Rattle.rows.specs.declared.Row.{Row}
 use Rattle.rows.specs.Rows.{version, no_row}
 use Rattle.rows.specs.Regions.{mixed}
 use Rattle.layout.specs.Layout.{Patch, fields_of, bytes_of}
-use Rattle.answers.specs.Answers.{Tests, first_refusal, answer_of, written}
+use Rattle.answers.specs.Answers.{Tests, first_refusal, answer_of, gives, written}
 use Rattle.ring.specs.Ring.{Site, site_of, or_chains, edge_tests, length_tests, not_flat}
 use Rattle.calls.specs.Removing.{block_tests, mark_lost, no_room, no_way, none_better, rows_made, patch_after}
 use Rattle.calls.specs.Flipping.{flip_tests, patch_flipped}
 use Rattle.demands.specs.Kernels.{Kernel}
 use Rattle.full_blocks.specs.FullBlocks.{six_ring}
 use Rattle.facts.specs.Joint.{row_of}
-use Rattle.rivals.specs.Useless.{with_remove, done_with, answered}
+use Rattle.rivals.specs.Useless.{with_remove, done_with}
 use Rattle.rivals.specs.WrongFlips.{with_flip}
 
 -- ---- the removal
@@ -23,7 +23,7 @@ removing tests after = with_remove (λ block out e f.
     let patch = fields_of block in
     let site = site_of patch e f in
     let answer = first_refusal (block_tests block out ++ edge_tests or_chains site e f ++ length_tests site ++ tests site) in
-    (answered (done_with patch site (after site)) answer, written answer (bytes_of (version block) (after site)) out))
+    (gives answer (done_with patch site (after site)), written answer (bytes_of (version block) (after site)) out))
 
 -- one that looks at two of the rows that go
 abbrev pub looking_at_two : Kernel

@@ -1,15 +1,14 @@
 -- A wrong kernel of the time when coordinates went to 128: ours, but opening still refuses what is over it.
-use Rattle.std.specs.Prelude.{cond, [], ltb}
+use Rattle.std.specs.Prelude.{cond, [], ltb, Err}
 use Rattle.lists.specs.Lists.{any}
-use Rattle.answers.specs.declared.Answer.TheVariants.{Refused}
-use Rattle.layout.specs.Layout.{Patch, coordinates_of, no_fields}
+use Rattle.layout.specs.Layout.{Patch, coordinates_of}
 use Rattle.demands.specs.Kernels.{Kernel, ours}
 use Rattle.facts.specs.Facts.{at, block_a_with}
 
 -- with the number 6
 abbrev pub refusing129 : Kernel
 refusing129 = record {
-  read = λ block. cond (any (ltb 128) (coordinates_of block)) (record { answer = Refused 6; fields = no_fields }) (ours.read block);
+  read = λ block. cond (any (ltb 128) (coordinates_of block)) (Err (record { number = 6 })) (ours.read block);
   summary = ours.summary;
   shown = ours.shown;
   seal = ours.seal;

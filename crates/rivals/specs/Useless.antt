@@ -1,5 +1,5 @@
 -- Five useless kernels that the demands have to shut out, each ours but for one call; and the blocks that show them up.
-use Rattle.std.specs.Prelude.{ℕ, zero, suc, ◌-◌, List, [], ◌∷◌, ◌++◌}
+use Rattle.std.specs.Prelude.{ℕ, zero, suc, ◌-◌, List, [], ◌∷◌, ◌++◌, Result, Err}
 use Rattle.std.proofs.Math.Option.{none, some}
 use Rattle.page.specs.Page.{shown, page_row}
 use Rattle.rows.specs.declared.Row.{Row}
@@ -7,22 +7,21 @@ use Rattle.rows.specs.Rows.{version}
 use Rattle.marking.specs.Marking.{dressed}
 use Rattle.layout.specs.Layout.{Patch, fields_of, bytes_of}
 use Rattle.block.specs.Opening.{open_answer}
-use Rattle.answers.specs.Answers.{written}
+use Rattle.answers.specs.declared.Refusal.{Refusal}
+use Rattle.answers.specs.Answers.{gives, written}
 use Rattle.ring.specs.Ring.{Site, site_of, m, ring_with}
 use Rattle.triangulation.specs.Triangulation.{Tri, side, cut, new_rows}
 use Rattle.triangulation.specs.Best.{apex}
+use Rattle.summary.specs.declared.Summary.{Summary}
 use Rattle.summary.specs.Summary.{summary_of}
 use Rattle.tally.specs.Tally.{worst_of_patch}
-use Rattle.calls.specs.declared.Summarised.{Summarised}
-use Rattle.calls.specs.declared.Summarised.TheVariants.{Summary as Summed, Refused as NoSummary}
-use Rattle.calls.specs.declared.Removal.TheVariants.{Done, Refused}
 use Rattle.calls.specs.declared.Removed.{Removed}
 use Rattle.calls.specs.Removing.{remove_answer, remove_gives}
 use Rattle.demands.specs.Kernels.{Kernel, ours}
 use Rattle.facts.specs.Facts.{at, row}
 
 -- ours, with another removal
-abbrev pub with_remove : (List ℕ → List ℕ → ℕ → ℕ → Removed × List ℕ) → Kernel
+abbrev pub with_remove : (List ℕ → List ℕ → ℕ → ℕ → Result Removed Refusal × List ℕ) → Kernel
 with_remove remove = record {
   read = ours.read;
   summary = ours.summary;
@@ -33,7 +32,7 @@ with_remove remove = record {
 }
 
 -- ours, with another summary
-abbrev pub with_summary : (List ℕ → Summarised) → Kernel
+abbrev pub with_summary : (List ℕ → Result Summary Refusal) → Kernel
 with_summary summary = record {
   read = ours.read;
   summary = summary;
@@ -45,8 +44,7 @@ with_summary summary = record {
 
 -- "one that refuses all", with whatever numbers
 abbrev pub refusing : (List ℕ → List ℕ → ℕ → ℕ → ℕ) → Kernel
-refusing number =
-    with_remove (λ block out e f. (record { removal = Refused (suc (number block out e f)); ring = ring_with [] }, out))
+refusing number = with_remove (λ block out e f. (Err (record { number = suc (number block out e f) }), out))
 
 -- "one with a fixed block for an answer", whatever the block
 abbrev pub fixing : List ℕ → Kernel
@@ -60,16 +58,13 @@ copying = with_remove (λ block out e f. (remove_gives block out e f, written (r
 abbrev pub inventing : ℕ → ℕ → ℕ → Kernel
 inventing upright flat inverted = with_summary (λ block.
     let true-one = summary_of (fields_of block) in
-    elim (open_answer block) [
-      | zero ↦ Summed (record {
-        upright = upright;
-        flat = flat;
-        inverted = inverted;
-        worst = true-one.worst;
-        octave = true-one.octave;
-      })
-      | suc n ↦ NoSummary (suc n)
-    ])
+    gives (open_answer block) (record {
+      upright = upright;
+      flat = flat;
+      inverted = inverted;
+      worst = true-one.worst;
+      octave = true-one.octave;
+    }))
 
 -- the fan of a piece of a span, from its first point
 unfoldable pub fan_first : ℕ → Tri
@@ -97,17 +92,12 @@ patch_by fan site = record { points = site.points; rows = table_fanned fan site 
 -- what a removal that leaves a patch gives: the true page row, and the ring
 abbrev pub done_with : Patch → Site → Patch → Removed
 done_with patch site after = record {
-  removal = Done (page_row (shown (worst_of_patch patch)) (shown (worst_of_patch after)));
+  page = page_row (shown (worst_of_patch patch)) (shown (worst_of_patch after));
   ring = ring_with site.ring;
 }
 
 abbrev pub given_by : (ℕ → Tri) → Patch → Site → Removed
 given_by fan patch site = done_with patch site (patch_by fan site)
-
--- what a removal gives with an answer
-abbrev pub answered : Removed → ℕ → Removed
-answered given zero = given
-answered given (suc n) = record { removal = Refused (suc n); ring = ring_with [] }
 
 -- "one that picks the top apex well and fans the remaining pieces"; its page row is true
 abbrev pub fanning : (ℕ → Tri) → Kernel
@@ -115,7 +105,7 @@ fanning fan = with_remove (λ block out e f.
     let patch = fields_of block in
     let site = site_of patch e f in
     let answer = remove_answer block out e f in
-    (answered (given_by fan patch site) answer, written answer (bytes_of (version block) (patch_by fan site)) out))
+    (gives answer (given_by fan patch site), written answer (bytes_of (version block) (patch_by fan site)) out))
 
 -- ---- a block where both fans lose: six rows round 0, 1; the best way and both fans are better than what is there
 

@@ -4,11 +4,11 @@ use Rattle.lists.specs.Lists.{those}
 use Rattle.rows.specs.declared.Row.{Row}
 use Rattle.rows.specs.Rows.{version}
 use Rattle.layout.specs.Layout.{Patch, fields_of, bytes_of}
-use Rattle.answers.specs.Answers.{Tests, first_refusal, written}
+use Rattle.answers.specs.Answers.{Tests, first_refusal, gives, written}
 use Rattle.ring.specs.Ring.{Site, site_of, or_chains, edge_tests}
 use Rattle.calls.specs.Removing.{block_tests, removal_tests, rows_made, patch_after, remove_answer, remove_gives}
 use Rattle.demands.specs.Kernels.{Kernel}
-use Rattle.rivals.specs.Useless.{with_remove, done_with, answered}
+use Rattle.rivals.specs.Useless.{with_remove, done_with}
 
 -- ---- one that takes a chain that is not flat
 
@@ -25,7 +25,7 @@ taking_bent = with_remove (λ block out e f.
     let site = site_of patch e f in
     let after = patch_after site in
     let answer = first_refusal (other_tests block out e f) in
-    (answered (done_with patch site after) answer, written answer (bytes_of (version block) after) out))
+    (gives answer (done_with patch site after), written answer (bytes_of (version block) after) out))
 
 -- ---- one that writes a new row with two numbers exchanged
 

@@ -1,10 +1,9 @@
 -- A ring and a flat chain of each length from 3 to 10 round the edge 0, 1; and the kernel that refuses one length.
-use Rattle.std.specs.Prelude.{ℕ, suc, ◌+◌, ◌-◌, Bool, true, false, cond, not, ◌&&◌, List, [], ◌∷◌, ◌++◌, map, eqb, take}
+use Rattle.std.specs.Prelude.{ℕ, suc, ◌+◌, ◌-◌, Bool, true, false, cond, not, ◌&&◌, List, [], ◌∷◌, ◌++◌, map, eqb, take, Err}
 use Rattle.lists.specs.Lists.{numbers_from}
 use Rattle.volume.specs.declared.Point.{Point}
 use Rattle.layout.specs.Layout.{Patch, fields_of}
-use Rattle.ring.specs.Ring.{site_of, m, ring_with}
-use Rattle.calls.specs.declared.Removal.TheVariants.{Refused}
+use Rattle.ring.specs.Ring.{site_of, m}
 use Rattle.calls.specs.Removing.{remove_gives, remove_bytes}
 use Rattle.demands.specs.Kernels.{Kernel}
 use Rattle.facts.specs.Facts.{at, row}
@@ -41,7 +40,7 @@ wheel closed n = record {
 abbrev pub refusing_where : (List ℕ → ℕ → ℕ → Bool) → (List ℕ → List ℕ → ℕ → ℕ → ℕ) → Kernel
 refusing_where test number =
     with_remove (λ block out e f.
-    cond (test block e f) (record { removal = Refused (suc (number block out e f)); ring = ring_with [] }, out)
+    cond (test block e f) (Err (record { number = suc (number block out e f) }), out)
     (remove_gives block out e f, remove_bytes block out e f))
 
 -- the same truth value

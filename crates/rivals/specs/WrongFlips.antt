@@ -1,14 +1,12 @@
 -- Four wrong kernels, each ours but for its flip: two that test 21 in the wrong place, and two that take one count for another.
-use Rattle.std.specs.Prelude.{ℕ, List, [], ◌∷◌, ◌++◌, length, take}
+use Rattle.std.specs.Prelude.{ℕ, List, [], ◌∷◌, ◌++◌, length, take, Err}
 use Rattle.rows.specs.Rows.{version}
 use Rattle.layout.specs.Layout.{fields_of, bytes_of}
-use Rattle.answers.specs.declared.Answer.{Answer}
-use Rattle.answers.specs.declared.Answer.TheVariants.{Refused}
 use Rattle.answers.specs.Answers.{first_refusal, answer_of, written}
 use Rattle.ring.specs.Ring.{numbers_wrong}
 use Rattle.calls.specs.Removing.{block_tests}
 use Rattle.calls.specs.Flipping.{by_count, flip_tests, patch_flipped}
-use Rattle.demands.specs.Kernels.{Kernel, ours}
+use Rattle.demands.specs.Kernels.{Answer, Kernel, ours}
 
 -- ours, with another flip
 abbrev pub with_flip : (List ℕ → List ℕ → List ℕ → Answer × List ℕ) → Kernel
@@ -25,7 +23,7 @@ with_flip flip = record {
 abbrev pub counting_first : Kernel
 counting_first = with_flip (λ block out numbers.
     let its = ours.flip block out numbers in
-    by_count (λ e f. its) (λ x y z. its) (Refused 21, out) numbers)
+    by_count (λ e f. its) (λ x y z. its) (Err (record { number = 21 }), out) numbers)
 
 -- one that tests 9 before 21
 abbrev pub numbering_first : Kernel

@@ -12,6 +12,7 @@ pub const VERSION_AT: usize = 0;
 pub const ROWS_AT: usize = 208;
 
 // The versions: regions of a byte, or of four bits and beside them the marks.
+// Kept: a version is a byte and no enum, since `row_in` answers for a table with any byte there, and `labels_of` in specs/ reads every one but 1 as marked.
 pub const PLAIN_VERSION: u8 = 1;
 
 pub const MARKED_VERSION: u8 = 2;
@@ -26,6 +27,16 @@ pub struct Marks {
     pub psr: bool,
     pub pqs: bool,
     pub prq: bool,
+}
+
+impl Marks {
+    // No face is marked.
+    pub const NONE: Marks = Marks {
+        qrs: false,
+        psr: false,
+        pqs: false,
+        prq: false,
+    };
 }
 
 // What the last byte of a row says of it.
@@ -48,26 +59,15 @@ pub struct Row {
 
 // ---- region and marks in a byte
 
-// No face is marked.
-pub fn no_marks() -> Marks
-    ensures { result ≡ no_marks }
-{
-    Marks {
-        qrs: false,
-        psr: false,
-        pqs: false,
-        prq: false,
-    }
-}
-
 // The region and the marks of a byte, by the version of the block.
+#[tactic(auto, unfolding(crate::specs::Labels::labels_of))]
 fn labels_of(version: u8, byte: u8) -> Labels
     ensures { result ≡ labels_of version byte }
 {
     if version == PLAIN_VERSION {
         return Labels {
             region: byte,
-            marks: no_marks(),
+            marks: Marks::NONE,
         };
     }
     Labels {
@@ -158,7 +158,7 @@ pub fn plain(p: u8, q: u8, r: u8, s: u8, region: u8) -> Row
         r,
         s,
         region,
-        marks: no_marks(),
+        marks: Marks::NONE,
     }
 }
 
@@ -168,39 +168,22 @@ pub fn plain(p: u8, q: u8, r: u8, s: u8, region: u8) -> Row
 fn row_holds(row: Row, n: u8) -> bool
     ensures { result ≡ holds row n }
 {
-    if n == row.p {
-        return true;
-    }
-    if n == row.q {
-        return true;
-    }
-    if n == row.r {
-        return true;
-    }
-    n == row.s
+    [row.p, row.q, row.r, row.s].contains(&n)
 }
 
 // The row holds both ends of an edge.
 pub fn holds_edge(row: Row, a: u8, b: u8) -> bool
     ensures { result ≡ holds_edge a b row }
 {
-    if row_holds(row, a) {
-        return row_holds(row, b);
-    }
-    false
+    row_holds(row, a) && row_holds(row, b)
 }
 
 // The row holds the three numbers of a face.
+#[tactic(auto, using(lists::proofs::Tests::and_true), unfolding(lists::specs::Lists::every))]
 pub fn holds_face(row: Row, x: u8, y: u8, z: u8) -> bool
     ensures { result ≡ holds_face (x ∷ y ∷ z ∷ []) row }
 {
-    if !row_holds(row, x) {
-        return false;
-    }
-    if !row_holds(row, y) {
-        return false;
-    }
-    row_holds(row, z)
+    row_holds(row, x) && row_holds(row, y) && row_holds(row, z)
 }
 
 // The region of some rows, or that they have more than one.

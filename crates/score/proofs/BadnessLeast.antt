@@ -6,22 +6,22 @@ use mathlib.Core.Path.{◌≡◌, refl, sym, ap, ◌∙◌, subst}
 use native.Mathlib.Nat.{le_trans, mul_comm, mul-le-mul_left}
 use native.Mathlib.Omega.{arith}
 use lib.Dec.{T}
+use Rattle.std.specs.Prelude.{None, Some}
 use Rattle.exact.specs.Fractions.{rounded_up}
 use Rattle.exact.proofs.RoundedUp.{enough, least, of_equals}
 use Rattle.lists.proofs.Tests.{yes_is, no_is}
 use Rattle.quality.specs.declared.Kind.{Kind}
 use Rattle.quality.specs.declared.Kind.TheVariants.{Upright, Flat, Inverted}
 use Rattle.quality.specs.declared.Quality.{Quality}
-use Rattle.score.specs.declared.Badness.TheVariants.{Rounded, NotUpright}
 use Rattle.quality.specs.Quality.{is_upright, is_flat, as_good}
 use Rattle.score.specs.Score.{badness, added}
 use Rattle.quality.proofs.ConsistentQualities.{Consistent, Same, of_kind, same}
 
-pub badness_upright : (q : Quality) → T (is_upright q) → badness q ≡ Rounded (rounded_up q.den q.num)
+pub badness_upright : (q : Quality) → T (is_upright q) → badness q ≡ Some (rounded_up q.den q.num)
 unfolding badness
 badness_upright q u = rw (yes_is (is_upright q) u)
 
-pub badness_other : (q : Quality) → T (not (is_upright q)) → badness q ≡ NotUpright
+pub badness_other : (q : Quality) → T (not (is_upright q)) → badness q ≡ None
 unfolding badness
 badness_other q u = rw (no_is (is_upright q) u)
 
@@ -46,7 +46,7 @@ module _ (q : Quality) (u : T (is_upright q)) (p : 0 < q.num) where
 pub badness_same : (q r : Quality) → Consistent q → Consistent r → T (as_good q r) → badness q ≡ badness r
 unfolding badness
 badness_same q r p s h =
-    go q.kind rounded ∙ ap (λ k. cond (is_upright (of_kind k r)) (Rounded (rounded_up r.den r.num)) NotUpright) e.kind
+    go q.kind rounded ∙ ap (λ k. cond (is_upright (of_kind k r)) (Some (rounded_up r.den r.num)) None) e.kind
   where
     e : Same q r
     e = same q r p s h
@@ -59,7 +59,7 @@ badness_same q r p s h =
     go :
         {m n : ℕ} (k : Kind)
         → (T (not (is_flat (of_kind k q))) → m ≡ n)
-        → cond (is_upright (of_kind k q)) (Rounded m) NotUpright ≡ cond (is_upright (of_kind k r)) (Rounded n) NotUpright
-    go Upright f = ap Rounded (f tt)
+        → cond (is_upright (of_kind k q)) (Some m) None ≡ cond (is_upright (of_kind k r)) (Some n) None
+    go Upright f = ap Some (f tt)
     go Flat f = refl
     go Inverted f = refl

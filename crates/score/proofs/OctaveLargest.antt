@@ -10,11 +10,11 @@ use native.Mathlib.Omega.{arith}
 use lib.Dec.{T, leb, leb→le, le→leb}
 use borrow.Author.Tests.{eq-eqb, ne_eqb}
 use lib.ListN.{length}
+use Rattle.std.specs.Prelude.{None, Some}
 use Rattle.lists.specs.Lists.{count, those}
 use Rattle.lists.proofs.Tests.{is_yes, is_no}
 use Rattle.lists.proofs.Numbers.{largest_within, largest_passes, largest_above, largest_over}
 use Rattle.quality.specs.declared.Quality.{Quality}
-use Rattle.score.specs.declared.Octave.TheVariants.{Exponent, NoUpright}
 use Rattle.quality.specs.Quality.{is_upright}
 use Rattle.score.specs.Score.{badness, added, total_badness, octave_limit, octave_of, octave}
 use Rattle.quality.proofs.ConsistentQualities.{Consistent, upright_size}
@@ -122,7 +122,7 @@ total_bounds bound (q ∷ qs) rows = go (is_upright q) refl (total_bounds bound 
 
 -- e is the octave of some rows: the largest e at all with 2^e·n ≤ the sum
 pub record OctaveIs (qs : List Quality) (e : ℕ) : Type 0 where
-  pub mark : octave qs ≡ Exponent e
+  pub mark : octave qs ≡ Some e
   pub reached : 2 ^ e * count is_upright qs ≤ total_badness qs
   pub next : total_badness qs < 2 ^ suc e * count is_upright qs
   pub largest : (k : ℕ) → 2 ^ k * count is_upright qs ≤ total_badness qs → k ≤ e
@@ -155,6 +155,6 @@ octave_of_rows bound qs small rows some-upright =
     under = omega (arith, bounds.1, mul-le-mul_left n small)
 
 -- with no upright row there is a mark
-pub octave_of_none : (qs : List Quality) → count is_upright qs ≡ 0 → octave qs ≡ NoUpright
+pub octave_of_none : (qs : List Quality) → count is_upright qs ≡ 0 → octave qs ≡ None
 unfolding octave
 octave_of_none qs z = simp (eq-eqb (count is_upright qs) 0 z)

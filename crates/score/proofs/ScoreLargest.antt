@@ -9,12 +9,12 @@ use native.Mathlib.Decide.{dec_le}
 use native.Mathlib.Nat.{le_trans, le_antisymm, mul-le-mul_right, pow-le-pow_left, mul-pos, one-le-pow}
 use native.Mathlib.Omega.{arith}
 use lib.Dec.{T, leb, leb→le, le→leb}
+use Rattle.std.specs.Prelude.{Some}
 use Rattle.exact.proofs.CrossProducts.{at_most_trans_ℕ}
 use Rattle.lists.specs.Lists.{largest}
 use Rattle.lists.proofs.Tests.{yes_is, no_is}
 use Rattle.lists.proofs.Numbers.{largest_within, largest_passes, largest_above}
 use Rattle.quality.specs.declared.Quality.{Quality}
-use Rattle.score.specs.declared.WorstScore.TheVariants.{Worst}
 use Rattle.quality.specs.Quality.{is_upright, worst, as_good}
 use Rattle.score.specs.Score.{lowest_score, highest_score, score_factor, score_of, score, worst_score}
 use Rattle.quality.proofs.QualityOrder.{Fraction, ◌⊑◌, from_as_good}
@@ -126,7 +126,7 @@ pub worst_score_smallest :
     (qs : List Quality) {q : Quality}
     → Fractions qs
     → worst qs ≡ some q
-    → (worst_score qs ≡ Worst (score q)) × ((r : Quality) → Memᴰ r qs → score_of q ≤ score_of r)
+    → (worst_score qs ≡ Some (score q)) × ((r : Quality) → Memᴰ r qs → score_of q ≤ score_of r)
 unfolding worst_score
 worst_score_smallest qs {q} f e =
     let w = worst_is_lem qs f e in

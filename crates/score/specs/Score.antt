@@ -1,16 +1,10 @@
 -- Requirement §4 and §5: score, badness, octave and their marks.
-use Rattle.std.specs.Prelude.{ℕ, ◌*◌, ◌^◌, min, cond, List, map, leb, eqb}
+use Rattle.std.specs.Prelude.{ℕ, ◌*◌, ◌^◌, min, cond, List, map, leb, eqb, Option, None, Some, unwrap_or}
 use Rattle.std.proofs.Math.Option.{none, some}
 use Rattle.lists.specs.Lists.{count, sum, largest}
 use Rattle.exact.specs.Fractions.{rounded_up}
 use Rattle.quality.specs.declared.Quality.{Quality}
 use Rattle.score.specs.declared.Score.{Score}
-use Rattle.score.specs.declared.Badness.{Badness}
-use Rattle.score.specs.declared.Badness.TheVariants.{Rounded, NotUpright}
-use Rattle.score.specs.declared.WorstScore.{WorstScore}
-use Rattle.score.specs.declared.WorstScore.TheVariants.{Worst, NoRows}
-use Rattle.score.specs.declared.Octave.{Octave}
-use Rattle.score.specs.declared.Octave.TheVariants.{Exponent, NoUpright}
 use Rattle.quality.specs.Quality.{is_upright, worst}
 
 -- ---- score
@@ -40,19 +34,18 @@ abbrev pub score : Quality → Score
 score q = record { value = score_of q }
 
 -- the score of the worst row; a patch with no rows has a mark
-unfoldable pub worst_score : List Quality → WorstScore
-worst_score qs = elim (worst qs) [ none ↦ NoRows | some q ↦ Worst (score q) ]
+unfoldable pub worst_score : List Quality → Option Score
+worst_score qs = elim (worst qs) [ none ↦ None | some q ↦ Some (score q) ]
 
 -- ---- badness
 
 -- badness, for D > 0 only: S³/(432·D²) rounded up
-unfoldable pub badness : Quality → Badness
-badness q = cond (is_upright q) (Rounded (rounded_up q.den q.num)) NotUpright
+unfoldable pub badness : Quality → Option ℕ
+badness q = cond (is_upright q) (Some (rounded_up q.den q.num)) None
 
 -- what a row adds to the sum over the upright rows
-abbrev pub added : Badness → ℕ
-added (Rounded n) = n
-added NotUpright = 0
+abbrev pub added : Option ℕ → ℕ
+added b = unwrap_or b 0
 
 -- the sum of badness over the upright rows
 unfoldable pub total_badness : List Quality → ℕ
@@ -69,7 +62,7 @@ unfoldable pub octave_of : ℕ → ℕ → ℕ
 octave_of n total = largest (λ e. leb (2 ^ e * n) total) octave_limit
 
 -- the octave: n counts the upright rows, and the sum is that of their badness; with no upright row it is a mark
-unfoldable pub octave : List Quality → Octave
+unfoldable pub octave : List Quality → Option ℕ
 octave qs =
     let n = count is_upright qs in
-    cond (eqb n 0) NoUpright (Exponent (octave_of n (total_badness qs)))
+    cond (eqb n 0) None (Some (octave_of n (total_badness qs)))

@@ -1,7 +1,7 @@
-// What whole numbers say of qualities: score, badness and octave, each for every input, and the marks where there is none.
+// What whole numbers say of qualities: score, badness and octave, each for every input, and `None` where there is no such number.
 #![tactic(auto)]
 
-ghost use Rattle.std.specs.Prelude.{eqb, leb, cond, ◌≡◌, ◌*◌, ◌^◌, ◌≤◌};
+ghost use Rattle.std.specs.Prelude.{eqb, leb, cond, ◌≡◌, ◌*◌, ◌^◌, ◌≤◌, None, Some};
 ghost use Rattle.lists.specs.Lists.{largest};
 ghost use Rattle.score.specs.Score.{badness, highest_score, octave_of, score, score_at, score_factor};
 
@@ -13,13 +13,6 @@ use quality::{Kind, Quality};
 #[derive(Clone, Copy)]
 pub struct Score {
     value: u16,
-}
-
-// The score of the worst row, or the mark of a patch with no rows.
-#[derive(Clone, Copy)]
-pub enum WorstScore {
-    Worst(Score),
-    NoRows,
 }
 
 impl Score {
@@ -87,39 +80,23 @@ fn score_of(num: u64, den: u64) -> u16
 
 // ---- badness
 
-// The inverse of a quality, rounded up; there is one for an upright row only.
-#[derive(Clone, Copy)]
-pub enum Badness {
-    Rounded(u64),
-    NotUpright,
-}
-
-impl Badness {
-    // The badness of a quality.
-    pub fn of(quality: Quality) -> Badness
-        ensures { result ≡ badness quality }
-    {
-        let kind = quality.kind();
-        match kind {
-            Kind::Upright => {
-                let num = quality.num();
-                let den = quality.den();
-                Badness::Rounded(exact::rounded_up(den, num))
-            }
-            Kind::Flat => Badness::NotUpright,
-            Kind::Inverted => Badness::NotUpright,
+// The badness of a quality: its inverse, rounded up; there is one for an upright row only.
+pub fn badness(quality: Quality) -> Option<u64>
+    ensures { result ≡ badness quality }
+{
+    let kind = quality.kind();
+    match kind {
+        Kind::Upright => {
+            let num = quality.num();
+            let den = quality.den();
+            Some(exact::rounded_up(den, num))
         }
+        Kind::Flat => None,
+        Kind::Inverted => None,
     }
 }
 
 // ---- octave
-
-// The octave, or the mark of a patch with no upright row.
-#[derive(Clone, Copy)]
-pub enum Octave {
-    Exponent(u8),
-    NoUpright,
-}
 
 // The largest octave looked for.
 const OCTAVE_LIMIT: u8 = 63;
@@ -128,24 +105,22 @@ const OCTAVE_LIMIT: u8 = 63;
 fn octave_of(n: u64, total: u64) -> u8
     ensures { result ≡ octave_of n total }
 {
-    let mut exponent: u8 = 0;
     let mut half = total / 2;
-    while exponent < OCTAVE_LIMIT {
+    for exponent in 0..OCTAVE_LIMIT {
         if half < n {
             return exponent;
         }
         half /= 2;
-        exponent += 1;
     }
-    exponent
+    OCTAVE_LIMIT
 }
 
-// The same, with the mark where there is no upright row.
-pub fn octave_mark(n: u64, total: u64) -> Octave
-    ensures { result ≡ cond (eqb n 0) Octave.NoUpright (Octave.Exponent (octave_of n total)) }
+// The octave; there is none where there is no upright row.
+pub fn octave(n: u64, total: u64) -> Option<u8>
+    ensures { result ≡ cond (eqb n 0) None (Some (octave_of n total)) }
 {
     if n == 0 {
-        return Octave::NoUpright;
+        return None;
     }
-    Octave::Exponent(octave_of(n, total))
+    Some(octave_of(n, total))
 }

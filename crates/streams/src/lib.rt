@@ -11,10 +11,7 @@ fn some<R: Read>(reader: &mut R, buf: &mut [u8]) -> usize
     ensures in_bounds { result ≤ length buf.new }
     ensures bytes { Consumes (R.remaining reader.old) (R.remaining reader.new) (take result buf.new) }
 {
-    match reader.read(buf) {
-        Ok(n) => n,
-        Err(_) => 0,
-    }
+    reader.read(buf).unwrap_or(0)
 }
 
 // Reads until buf is full, the input ends or a read fails, and returns how many bytes it put at the start of buf: the next of the input.
@@ -37,8 +34,5 @@ pub fn read_full<R: Read>(reader: &mut R, buf: &mut [u8]) -> usize
 pub fn write_all<W: Write>(writer: &mut W, bytes: &[u8]) -> bool
     ensures { IsTrue result → Appends (W.contents writer.old) (W.contents writer.new) bytes.now }
 {
-    match writer.write_all(bytes) {
-        Ok(()) => true,
-        Err(_) => false,
-    }
+    writer.write_all(bytes).is_ok()
 }

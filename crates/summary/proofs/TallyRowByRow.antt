@@ -2,12 +2,13 @@
 use Prim.Native.Nat.{ℕ, suc, ◌+◌, ◌<◌, ◌^◌}
 use mathlib.Core.Bool.{Bool}
 use mathlib.Core.List.{List, [], ◌∷◌, ◌++◌, map}
-use mathlib.Core.Option.{Option, none, some}
+use mathlib.Core.Option as maybe
 use mathlib.Core.Path.{◌≡◌, refl, sym, ap, ◌∙◌, subst}
 use native.Mathlib.Nat.{add-zero}
 use native.Mathlib.Omega.{arith}
 use lib.Dec.{T}
 use lib.ListN.{length, length-map}
+use Rattle.std.specs.Prelude.{None, Some, option_map}
 use Rattle.lists.specs.Lists.{count, every, those}
 use Rattle.lists.proofs.Counts.{count_append, count_most}
 use Rattle.quality.specs.declared.Kind.{Kind}
@@ -16,7 +17,6 @@ use Rattle.quality.specs.declared.Quality.{Quality}
 use Rattle.volume.specs.Steps.{largest_byte}
 use Rattle.volume.specs.Volume.{points_in}
 use Rattle.quality.specs.Quality.{worst, is_upright, is_flat, is_inverted}
-use Rattle.score.specs.declared.WorstScore.TheVariants as Marked
 use Rattle.score.specs.Score.{badness, added, total_badness, score, worst_score, octave}
 use Rattle.quality.proofs.ConsistentQualities.{of_kind}
 use Rattle.rows.specs.declared.Row.{Row}
@@ -28,10 +28,10 @@ use Rattle.layout.specs.Within.{is_byte}
 use Rattle.summary.specs.declared.Counts.{Counts}
 use Rattle.summary.specs.declared.Tally.{Tally}
 use Rattle.tally.specs.Steps.{Measured}
-use Rattle.summary.specs.Steps.{count_with, tally_with, tallied, score_met, Unwrapped}
+use Rattle.summary.specs.Steps.{count_with, tally_with, tallied, Unwrapped}
 use Rattle.tally.specs.Tally.{qualities}
 use Rattle.summary.specs.Summary.{summary_of}
-use Rattle.tally.proofs.MeasuredRows.{qualities_more}
+use Rattle.tally.proofs.RowsMeasured.{qualities_more}
 use Rattle.summary.proofs.BadnessFits.{total_fits}
 use Rattle.tally.proofs.WorstRowByRow.{met, worst_more}
 
@@ -70,13 +70,13 @@ badness_more [] q = omega arith
 badness_more (x ∷ xs) q = omega (arith, badness_more xs q)
 
 -- the score of the worst of them
-score_of_lem : (qs : List Quality) → score_met (met (worst qs)) ≡ worst_score qs
+score_of_lem : (qs : List Quality) → option_map score (met (worst qs)) ≡ worst_score qs
 unfolding worst_score
 score_of_lem qs = go (worst qs)
   where
-    go : (w : Option Quality) → score_met (met w) ≡ elim w [ none ↦ Marked.NoRows | some q ↦ Marked.Worst (score q) ]
-    go none = refl
-    go (some q) = refl
+    go : (w : maybe.Option Quality) → option_map score (met w) ≡ elim w [ maybe.none ↦ None | maybe.some q ↦ Some (score q) ]
+    go maybe.none = refl
+    go (maybe.some q) = refl
 
 -- what the qualities of some rows come to
 unfoldable pub tally_of : List Quality → Tally

@@ -1,24 +1,14 @@
 -- What only contracts of inner functions and proofs say: the counts, the sum of badness and the worst of the rows passed so far.
-use Rattle.std.specs.Prelude.{◌+◌, ◌<◌, ◌^◌, cond, eqb}
+use Rattle.std.specs.Prelude.{◌+◌, ◌<◌, ◌^◌, cond, eqb, None, Some, option_map}
 use Rattle.quality.specs.declared.Kind.{Kind}
 use Rattle.quality.specs.declared.Kind.TheVariants.{Upright, Flat, Inverted}
 use Rattle.quality.specs.declared.Quality.{Quality}
-use Rattle.score.specs.declared.Octave.TheVariants.{Exponent, NoUpright}
-use Rattle.score.specs.declared.WorstScore.{WorstScore}
-use Rattle.score.specs.declared.WorstScore.TheVariants as Marked
 use Rattle.volume.specs.Steps.{largest_byte}
 use Rattle.score.specs.Score.{score, badness, added, octave_of}
-use Rattle.tally.specs.declared.Met.{Met}
-use Rattle.tally.specs.declared.Met.TheVariants.{Nothing, Worst}
 use Rattle.tally.specs.Steps.{worst_with}
 use Rattle.summary.specs.declared.Counts.{Counts}
 use Rattle.summary.specs.declared.Tally.{Tally}
 use Rattle.summary.specs.declared.Summary.{Summary}
-
--- the score of the worst row; a patch with no rows has a mark
-abbrev pub score_met : Met → WorstScore
-score_met Nothing = Marked.NoRows
-score_met (Worst q) = Marked.Worst (score q)
 
 -- the counts with one more row of a kind
 abbrev pub count_with : Counts → Kind → Counts
@@ -49,6 +39,6 @@ tallied t =
       upright = n;
       flat = t.counts.flat;
       inverted = t.counts.inverted;
-      worst = score_met t.met;
-      octave = cond (eqb n 0) NoUpright (Exponent (octave_of n t.total));
+      worst = option_map score t.met;
+      octave = cond (eqb n 0) None (Some (octave_of n t.total));
     }

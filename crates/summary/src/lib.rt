@@ -4,23 +4,23 @@
 ghost use Rattle.std.specs.Prelude.{◌≡◌, ◌<◌};
 ghost use Rattle.volume.specs.Steps.{largest_byte};
 ghost use Rattle.score.specs.Score.{added, badness};
-ghost use Rattle.tally.specs.Tally.{patch_in};
-ghost use Rattle.tally.specs.Steps.{Measured};
+ghost use Rattle.tally.specs.Patches.{patch_of};
 ghost use Rattle.summary.specs.Summary.{summary_of};
-ghost use Rattle.summary.specs.Steps.{count_with, Unwrapped, score_met, tallied, tally_with};
+ghost use Rattle.summary.specs.Steps.{count_with, Unwrapped, tallied, tally_with};
 
 use quality::{Kind, Quality};
-use score::{Badness, Octave, Score, WorstScore};
-use tally::Met;
+use score::Score;
+use tally::MeasuredRows;
 
-// Counts of upright, flat and inverted rows, the score of the worst row, and the octave.
+// Counts of upright, flat and inverted rows, the score of the worst row, and the octave. There is no score where there are no rows, and
+// no octave where there is no upright row.
 #[derive(Clone, Copy)]
 pub struct Summary {
     pub upright: u8,
     pub flat: u8,
     pub inverted: u8,
-    pub worst: WorstScore,
-    pub octave: Octave,
+    pub worst: Option<Score>,
+    pub octave: Option<u8>,
 }
 
 // How many rows of each kind have been met.
@@ -49,20 +49,7 @@ impl Counts {
 fn added_by(q: Quality) -> u64
     ensures { result ≡ added (badness q) }
 {
-    match Badness::of(q) {
-        Badness::Rounded(n) => n,
-        Badness::NotUpright => 0,
-    }
-}
-
-// The score of the worst row met, or the mark of no rows.
-fn score_met(met: Met) -> WorstScore
-    ensures { result ≡ score_met met }
-{
-    match met {
-        Met::Nothing => WorstScore::NoRows,
-        Met::Worst(q) => WorstScore::Worst(Score::of(q)),
-    }
+    score::badness(q).unwrap_or(0)
 }
 
 // What the rows met so far come to.
@@ -70,7 +57,7 @@ fn score_met(met: Met) -> WorstScore
 struct Tally {
     counts: Counts,
     total: u64,
-    met: Met,
+    met: Option<Quality>,
 }
 
 impl Tally {
@@ -78,34 +65,29 @@ impl Tally {
         requires { Unwrapped self q }
         ensures { result ≡ tally_with self q }
     {
-        let counts = self.counts;
-        let met = self.met;
         Tally {
-            counts: counts.with(q.kind()),
+            counts: self.counts.with(q.kind()),
             total: self.total + added_by(q),
-            met: met.with(q),
+            met: tally::worst_with(self.met, q),
         }
     }
 
     fn summary(self) -> Summary
         ensures { result ≡ tallied self }
     {
-        let counts = self.counts;
-        let met = self.met;
         Summary {
-            upright: counts.upright,
-            flat: counts.flat,
-            inverted: counts.inverted,
-            worst: score_met(met),
-            octave: score::octave_mark(counts.upright as u64, self.total),
+            upright: self.counts.upright,
+            flat: self.counts.flat,
+            inverted: self.counts.inverted,
+            worst: self.met.map(Score::of),
+            octave: score::octave(self.counts.upright as u64, self.total),
         }
     }
 }
 
-// The summary of the first n rows.
-pub fn summary_of(coordinates: &[u8], count: usize, table: &[u8], n: usize) -> Summary
-    requires { Measured coordinates.now count table.now n }
-    ensures { result ≡ summary_of (patch_in coordinates.now count table.now n) }
+// The summary of the rows of a table.
+pub fn summary_of(rows: &MeasuredRows) -> Summary
+    ensures { result ≡ summary_of (patch_of rows.now) }
 {
     let mut tally = Tally {
         counts: Counts {
@@ -114,10 +96,10 @@ pub fn summary_of(coordinates: &[u8], count: usize, table: &[u8], n: usize) -> S
             inverted: 0,
         },
         total: 0,
-        met: Met::Nothing,
+        met: None,
     };
-    for i in 0..n {
-        tally = tally.with(tally::row_quality(coordinates, count, rows::row_in(table, i)));
+    for i in 0..rows.n {
+        tally = tally.with(rows.quality(i));
     }
     tally.summary()
 }

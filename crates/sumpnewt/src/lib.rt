@@ -1,5 +1,6 @@
 // The C boundary: the public calls behind C names, each returning the number of its answer. include/sumpnewt.h is their header.
 // A slice is a pointer and a length there. Unless the number is 0 every output element stays as it came.
+// Kept: functions of one shape, as each is a C name of its own (include/sumpnewt.h).
 #![tactic(auto)]
 
 ghost use Rattle.std.specs.Prelude.{◌≡◌};
@@ -14,9 +15,7 @@ ghost use Rattle.sumpnewt.specs.Boundary.{summary_answer, summary_out, page_answ
 pub extern "C" fn sumpnewt_open(block: &[u8]) -> u32
     ensures { result ≡ open_answer block.now }
 {
-    let opened = patch::open(block);
-    let answer = opened.answer;
-    answer.number() as u32
+    answers::number(&patch::open(block)) as u32
 }
 
 // Seals the first 508 bytes of a block.
@@ -25,8 +24,7 @@ pub extern "C" fn sumpnewt_seal(fields: &[u8], out: &mut [u8]) -> u32
     ensures answer { result ≡ seal_answer fields.now out.old }
     ensures bytes { out.new ≡ seal_bytes fields.now out.old }
 {
-    let answer = patch::seal(fields, out);
-    answer.number() as u32
+    answers::number(&patch::seal(fields, out)) as u32
 }
 
 // Summarises a block: upright, flat, inverted, has_worst, worst, has_octave, octave.
@@ -44,9 +42,7 @@ pub extern "C" fn sumpnewt_remove(block: &[u8], a: usize, b: usize, out: &mut [u
     ensures answer { result ≡ remove_answer block.now out.old a b }
     ensures bytes { out.new ≡ remove_bytes block.now out.old a b }
 {
-    let removed = patch::remove(block, a, b, out);
-    let removal = removed.removal;
-    removal.number() as u32
+    answers::number(&patch::remove(block, a, b, out)) as u32
 }
 
 // The page row of the removal of the edge between the points a and b: worst before, worst after.
@@ -64,8 +60,7 @@ pub extern "C" fn sumpnewt_shown(block: &[u8], out: &mut [f64]) -> u32
     ensures answer { result ≡ shown_answer block.now out.old }
     ensures elements { out.new ≡ shown_elements block.now out.old }
 {
-    let answer = patch::shown(block, out);
-    answer.number() as u32
+    answers::number(&patch::shown(block, out)) as u32
 }
 
 // Flips the three rows round the edge between two points to two, or the two rows at the face of three points to three.
@@ -74,6 +69,5 @@ pub extern "C" fn sumpnewt_flip(block: &[u8], numbers: &[usize], out: &mut [u8])
     ensures answer { result ≡ flip_answer block.now out.old numbers.now }
     ensures bytes { out.new ≡ flip_bytes block.now out.old numbers.now }
 {
-    let answer = patch::flip(block, numbers, out);
-    answer.number() as u32
+    answers::number(&patch::flip(block, numbers, out)) as u32
 }

@@ -1,4 +1,4 @@
-pub mod MeasuredRows
+pub mod RowsMeasured
 pub mod WorstRowByRow
 pub mod RowsInBytes
 pub mod OpensMeasured

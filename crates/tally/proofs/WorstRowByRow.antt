@@ -2,8 +2,9 @@
 use Prim.Native.Nat.{ℕ, suc}
 use mathlib.Core.Bool.{Bool, true, false}
 use mathlib.Core.List.{List, [], ◌∷◌, ◌++◌, foldl-append, map, map-append}
-use mathlib.Core.Option.{Option, none, some, get_or}
+use mathlib.Core.Option as maybe
 use mathlib.Core.Path.{◌≡◌, refl, sym, ap, ◌∙◌}
+use Rattle.std.specs.Prelude.{Option, None, Some, unwrap_or}
 use Rattle.lists.specs.Lists.{those}
 use Rattle.lists.proofs.Lists.{those_yes, those_no}
 use Rattle.quality.specs.declared.Quality.{Quality}
@@ -11,24 +12,22 @@ use Rattle.quality.specs.Quality.{worst, worse_of, zero_quality}
 use Rattle.rows.specs.declared.Row.{Row}
 use Rattle.rows.specs.Rows.{row_in, rows_in}
 use Rattle.rows.proofs.RowsOfTables.{rows_more}
-use Rattle.tally.specs.declared.Met.{Met}
-use Rattle.tally.specs.declared.Met.TheVariants.{Nothing, Worst}
-use Rattle.tally.specs.Steps.{worst_with, or_zero}
-use Rattle.tally.proofs.MeasuredRows.{qualities_more}
+use Rattle.tally.specs.Steps.{worst_with}
+use Rattle.tally.proofs.RowsMeasured.{qualities_more}
 
 -- a worst quality, or none, as the code keeps it
-abbrev pub met : Option Quality → Met
-met none = Nothing
-met (some q) = Worst q
+abbrev pub met : maybe.Option Quality → Option Quality
+met maybe.none = None
+met (maybe.some q) = Some q
 
 pub worst_more : (qs : List Quality) (q : Quality) → met (worst (qs ++ q ∷ [])) ≡ worst_with (met (worst qs)) q
 unfolding worst
 worst_more [] q = refl
-worst_more (x ∷ xs) q = ap Worst (foldl-append worse_of x xs (q ∷ []))
+worst_more (x ∷ xs) q = ap Some (foldl-append worse_of x xs (q ∷ []))
 
-pub or_zero_of : (w : Option Quality) → or_zero (met w) ≡ get_or w zero_quality
-or_zero_of none = refl
-or_zero_of (some q) = refl
+pub or_zero_of : (w : maybe.Option Quality) → unwrap_or (met w) zero_quality ≡ maybe.get_or w zero_quality
+or_zero_of maybe.none = refl
+or_zero_of (maybe.some q) = refl
 
 -- ---- one row more of a table
 

@@ -1,15 +1,16 @@
 -- What only contracts of inner functions and proofs say: bytes that can be measured, and the worst of the qualities met so far.
-use Rattle.std.specs.Prelude.{ℕ, ◌*◌, ◌≤◌, ◌<◌, ◌+◌, List, T, length}
+use Rattle.std.specs.Prelude.{ℕ, ◌*◌, ◌≤◌, ◌<◌, ◌+◌, List, T, length, Option, None, Some}
 use Rattle.lists.specs.Lists.{every}
+use Rattle.volume.specs.declared.Point.{Point}
 use Rattle.volume.specs.Volume.{point_size}
 use Rattle.rows.specs.declared.Row.{Row}
 use Rattle.rows.specs.Steps.{most_rows}
 use Rattle.rows.specs.Rows.{rows_at, row_size, rows_in}
+use Rattle.rows.specs.RowMeasure.{place}
 use Rattle.mesh.specs.Mesh.{numbers_fit}
 use Rattle.quality.specs.declared.Quality.{Quality}
-use Rattle.quality.specs.Quality.{zero_quality, worse_of}
-use Rattle.tally.specs.declared.Met.{Met}
-use Rattle.tally.specs.declared.Met.TheVariants.{Nothing, Worst}
+use Rattle.quality.specs.Quality.{worse_of}
+use Rattle.tally.specs.declared.Corners.{Corners}
 
 -- The coordinates hold the points, and the four numbers of the row are those of points.
 pub record Placed (coordinates : List ℕ) (count : ℕ) (row : Row) : Type 0 where
@@ -26,12 +27,16 @@ pub record Measured (coordinates : List ℕ) (count : ℕ) (table : List ℕ) (n
   pub rows_most : n ≤ most_rows
   pub proper : T (every (numbers_fit count) (rows_in table n))
 
--- the worst with one more quality; of equals the earlier one stays
-abbrev pub worst_with : Met → Quality → Met
-worst_with Nothing q = Worst q
-worst_with (Worst w) q = Worst (worse_of w q)
+-- the points at the four corners of a row
+abbrev pub corners_of : List Point → Row → Corners
+corners_of points row = record {
+  p = place points row.p;
+  q = place points row.q;
+  r = place points row.r;
+  s = place points row.s;
+}
 
--- the zero quality where nothing was met
-abbrev pub or_zero : Met → Quality
-or_zero Nothing = zero_quality
-or_zero (Worst q) = q
+-- the worst with one more quality; of equals the earlier one stays
+abbrev pub worst_with : Option Quality → Quality → Option Quality
+worst_with None q = Some q
+worst_with (Some w) q = Some (worse_of w q)

@@ -9,6 +9,7 @@ ghost use Rattle.text.specs.Steps.{held, Behind};
 pub const TEXT_BYTES: usize = 512;
 
 // The first n bytes; those behind them are zero.
+// Kept: no heap, and no String, which can run out of memory: `printout::print` and `flip_printout::print` cannot fail.
 #[derive(Clone, Copy)]
 pub struct Text {
     pub n: usize,
@@ -43,8 +44,8 @@ pub fn put_word(text: Text, word: &[u8]) -> Text
     ensures { Behind text word.now result }
 {
     let mut longer = text;
-    for i in 0..word.len() {
-        longer = put_byte(longer, word[i]);
+    for byte in word {
+        longer = put_byte(longer, *byte);
     }
     longer
 }

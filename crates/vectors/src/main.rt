@@ -1,8 +1,7 @@
 // Runs the stored cases through the public calls and prints how many of each call and answer agree.
 #![tactic(auto)]
 
-ghost use Rattle.std.specs.Prelude.{◌≡◌, length};
-ghost use Rattle.records.specs.Records.{record_bytes};
+ghost use Rattle.std.specs.Prelude.{◌≡◌};
 ghost use Rattle.vectors.specs.Counting.{Counted, record_counted};
 
 mod printing;
@@ -17,8 +16,7 @@ use std::io::Read;
 const MOST_CASES: usize = 65536;
 
 // One record more: its call is run, and counts as agreeing if it gives what is stored.
-fn with_record(counts: Counts, stored: &[u8]) -> Counts
-    requires { length stored.now ≡ record_bytes }
+fn with_record(counts: Counts, stored: &[u8; RECORD_BYTES]) -> Counts
     ensures { result ≡ record_counted counts stored.now }
 {
     let agreed = agreement::agrees(stored);
@@ -42,7 +40,7 @@ fn run_all<R: Read>(file: &mut R) -> Counts
 
 fn main(rt: HostRuntime) -> io::Result<()> {
     match File::open(&rt, "cases") {
-        Ok(mut file) => printing::print(&rt, run_all(&mut file)),
+        Ok(mut file) => printing::print(&rt, &run_all(&mut file)),
         Err(error) => eprintln!(rt; "cases: {error}"),
     }
 }

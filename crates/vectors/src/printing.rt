@@ -1,42 +1,24 @@
 // What the program prints: a line for each call and answer of which there are cases, and the total.
-use counts::{CELLS, Cell, Counts};
+use counts::{ANSWERS, Counts};
+use records::Call;
 use std::io;
 
-fn print_name(rt: &impl Print, call: usize) -> io::Result<()> {
-    match call {
-        0 => print!(rt; "open "),
-        1 => print!(rt; "seal "),
-        2 => print!(rt; "summary "),
-        3 => print!(rt; "remove "),
-        _ => print!(rt; "flip "),
-    }
-}
-
-// `remove 16: 21 of 21`.
-fn print_cell(rt: &impl Print, cell: Cell) -> io::Result<()> {
-    print_name(rt, cell.call)?;
-    println!(rt; "{}: {} of {}", cell.answer, cell.agreeing, cell.cases)
-}
-
-// A line for each call and answer of which there are cases.
-fn print_cells(rt: &impl Print, counts: Counts) -> io::Result<()> {
-    for i in 0..CELLS {
-        let cell = counts::cell_at(counts, i);
-        if cell.cases != 0 {
-            print_cell(rt, cell)?;
+// A line such as `remove 16: 21 of 21` for each call and answer of which there are cases.
+fn print_cells(rt: &impl Print, counts: &Counts) -> io::Result<()> {
+    for call in Call::ALL {
+        for answer in 0..ANSWERS {
+            let cases = counts::cases_of(counts, call, answer);
+            if cases.all != 0 {
+                println!(rt; "{call} {answer}: {} of {}", cases.agreeing, cases.all)?;
+            }
         }
     }
     Ok(())
 }
 
 // The lines of all cells, then the total.
-pub fn print(rt: &impl Print, counts: Counts) -> io::Result<()> {
-    let cases = counts.cases;
-    let agreeing = counts.agreeing;
+pub fn print(rt: &impl Print, counts: &Counts) -> io::Result<()> {
     print_cells(rt, counts)?;
-    println!(rt;
-        "{} cases, {} agree",
-        counts::total(cases),
-        counts::total(agreeing)
-    )
+    let total = counts::total(counts);
+    println!(rt; "{} cases, {} agree", total.all, total.agreeing)
 }

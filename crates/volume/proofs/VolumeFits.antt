@@ -1,36 +1,25 @@
 -- What fits an i64 on the way to D: entries of at most 255 in size, their minors, and the sums of products with them.
-use Prim.Native.Nat.{ℕ, zero, suc, ◌-◌, ◌^◌, ◌≤◌, ◌<◌}
-use mathlib.Core.Bool.{Bool, true, false, cond}
+use Prim.Native.Nat.{◌^◌, ◌≤◌}
 use mathlib.Core.Path.{◌≡◌, sym, ap}
-use native.Mathlib.Nat.{add-zero, lt_of_le_of_lt}
-use native.Mathlib.Omega.{arith}
-use lib.Dec.{T, ltb, ltb→lt, lit<}
-use lib.IntN.{ℤ, pos, negsuc, nat_abs, sub_ℕ, ◌+ℤ◌, ◌-ℤ◌, ◌*ℤ◌}
+use native.Mathlib.Nat.{lt_of_le_of_lt}
+use lib.Dec.{T, lit<}
+use lib.IntN.{ℤ, pos, negsuc, nat_abs, ◌+ℤ◌, ◌-ℤ◌, ◌*ℤ◌}
 use lib.Signed.{non_neg}
 use mir.Syntax.{w64}
-use mir.Val.{Fits, SFits}
+use mir.Val.{Fits, SFits, to_z, of_z}
+use mir.Facts.{to_z-of_z}
 use Rattle.algebra.proofs.Size.{Size, size_add, size_sub, size_mul, fits_size}
 use Rattle.volume.specs.Steps.{largest_byte, minor_limit, volume_limit}
 use Rattle.volume.proofs.PointPolynomials.{pos_square}
 
--- ---- the difference of two bytes
+-- ---- entries
 
 entry : (z : ℤ) → nat_abs z ≤ largest_byte → Size largest_byte z
 entry z h = record { size = h }
 
-gap_sub : (m a b : ℕ) → a ≤ m → b ≤ m → nat_abs (sub_ℕ a b) ≤ m
-gap_sub m a b h k = go (ltb a b) (ltb→lt a b)
-  where
-    go : (t : Bool) → (T t → a < b) → nat_abs (cond t (negsuc (b - suc a)) (pos (a - b))) ≤ m
-    go true f = let l = f tt in omega arith
-    go false f = omega arith
-
-pub difference_most : (m a b : ℕ) → a ≤ m → b ≤ m → nat_abs (pos a -ℤ pos b) ≤ m
-difference_most m a zero h k = rw add-zero h
-difference_most m a (suc b) h k = gap_sub m a (suc b) h k
-
-pub difference_fits : (a b : ℕ) → a ≤ largest_byte → b ≤ largest_byte → SFits w64 (pos a -ℤ pos b)
-difference_fits a b h k = fits_size (entry (pos a -ℤ pos b) (difference_most largest_byte a b h k)) tt
+-- an entry, read back from its bits
+pub entry_read : (a : ℤ) → nat_abs a ≤ largest_byte → to_z w64 (of_z w64 a) ≡ a
+entry_read a h = to_z-of_z {w = w64} (fits_size (entry a h) tt)
 
 -- ---- minors
 

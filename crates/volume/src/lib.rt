@@ -1,9 +1,11 @@
 // The volume of a tetrahedron on the grid: its points, D and S. Coordinates are any bytes: nothing overflows.
 #![tactic(auto)]
 
-ghost use Rattle.std.specs.Prelude.{◌≡◌, ◌+◌, ◌*◌, ◌^◌, ◌≤◌, pos, nat_abs, ◌+ℤ◌, ◌-ℤ◌, ◌*ℤ◌, length};
+ghost use Rattle.std.specs.Prelude.{◌≡◌, ◌+◌, ◌*◌, ◌^◌, ◌≤◌, nat_abs, ◌-ℤ◌, ◌*ℤ◌, length};
 ghost use Rattle.volume.specs.Steps.{largest_byte, minor_limit, volume_limit, length_limit, spread_limit};
-ghost use Rattle.volume.specs.Volume.{point_size, point_in, determinant as determinantOf, D, S, squared_length};
+ghost use Rattle.volume.specs.Volume.{point_size, point_in, arrow, determinant, D, S, squared_length};
+
+use std::marker::Model;
 
 // ---- points
 
@@ -33,11 +35,37 @@ pub fn point_in(coordinates: &[u8], i: usize) -> Point
 
 // ---- D and S
 
-// How far a lies beyond b.
-fn beyond(a: u8, b: u8) -> i64
-    ensures { (result ≡ pos a -ℤ pos b) × (nat_abs result ≤ largest_byte) }
+// An arrow from one place to another: how far it goes along each axis.
+#[derive(Clone, Copy)]
+struct Arrow {
+    x: i64,
+    y: i64,
+    z: i64,
+}
+
+impl Model for Arrow {
+    ghost use Rattle.std.specs.Prelude.{◌≤◌, nat_abs};
+    ghost use Rattle.volume.specs.Steps.{largest_byte};
+    ghost use Rattle.volume.specs.Volume.{Arrow};
+
+    ghost Value = { Arrow };
+
+    ghost view = { λ u. (u.x, u.y, u.z) };
+
+    ghost invariant = { λ u. (nat_abs u.x ≤ largest_byte) × (nat_abs u.y ≤ largest_byte) × (nat_abs u.z ≤ largest_byte) };
+
+    ghost inverse = { λ u. record { x = u.0; y = u.1; z = u.2 } };
+}
+
+// The arrow from s to p.
+fn beyond(p: Point, s: Point) -> Arrow
+    ensures { result ≡ arrow p s }
 {
-    a as i64 - b as i64
+    Arrow {
+        x: p.x as i64 - s.x as i64,
+        y: p.y as i64 - s.y as i64,
+        z: p.z as i64 - s.z as i64,
+    }
 }
 
 // The determinant with rows a, b and c, d.
@@ -48,42 +76,21 @@ fn minor(a: i64, b: i64, c: i64, d: i64) -> i64
     a * d - b * c
 }
 
-// A determinant from its first row and the minors of the other two rows.
-fn expanded(a: i64, b: i64, c: i64, x: i64, y: i64, z: i64) -> i64
-    requires a_bound { (nat_abs a ≤ largest_byte) × (nat_abs b ≤ largest_byte) × (nat_abs c ≤ largest_byte) }
-    requires x_bound { (nat_abs x ≤ minor_limit) × (nat_abs y ≤ minor_limit) × (nat_abs z ≤ minor_limit) }
-    ensures { result ≡ a *ℤ x -ℤ b *ℤ y +ℤ c *ℤ z }
+// The determinant with rows u, v and w, from the first row and the minors of the other two.
+fn determinant(u: Arrow, v: Arrow, w: Arrow) -> i64
+    ensures { result ≡ determinant u v w }
 {
-    a * x - b * y + c * z
-}
-
-// The determinant with rows a b c, d e f and g h i.
-fn determinant(a: i64, b: i64, c: i64, d: i64, e: i64, f: i64, g: i64, h: i64, i: i64) -> i64
-    requires a_bound { (nat_abs a ≤ largest_byte) × (nat_abs b ≤ largest_byte) × (nat_abs c ≤ largest_byte) }
-    requires d_bound { (nat_abs d ≤ largest_byte) × (nat_abs e ≤ largest_byte) × (nat_abs f ≤ largest_byte) }
-    requires g_bound { (nat_abs g ≤ largest_byte) × (nat_abs h ≤ largest_byte) × (nat_abs i ≤ largest_byte) }
-    ensures { result ≡ determinantOf (a, b, c) (d, e, f) (g, h, i) }
-{
-    let x = minor(e, f, h, i);
-    let y = minor(d, f, g, i);
-    let z = minor(d, e, g, h);
-    expanded(a, b, c, x, y, z)
+    let x = minor(v.y, v.z, w.y, w.z);
+    let y = minor(v.x, v.z, w.x, w.z);
+    let z = minor(v.x, v.y, w.x, w.y);
+    u.x * x - u.y * y + u.z * z
 }
 
 // D: six times the volume of the tetrahedron, over 0 where it stands upright.
 pub fn volume(p: Point, q: Point, r: Point, s: Point) -> i64
     ensures { (result ≡ D p q r s) × (nat_abs result ≤ volume_limit) }
 {
-    let px = beyond(p.x, s.x);
-    let py = beyond(p.y, s.y);
-    let pz = beyond(p.z, s.z);
-    let qx = beyond(q.x, s.x);
-    let qy = beyond(q.y, s.y);
-    let qz = beyond(q.z, s.z);
-    let rx = beyond(r.x, s.x);
-    let ry = beyond(r.y, s.y);
-    let rz = beyond(r.z, s.z);
-    determinant(px, py, pz, qx, qy, qz, rx, ry, rz)
+    determinant(beyond(p, s), beyond(q, s), beyond(r, s))
 }
 
 // The square of a number up to the largest size of D.
@@ -94,18 +101,12 @@ pub fn square(d: i64) -> u64
     (d * d) as u64
 }
 
-// The square of how far a lies from b.
-fn squared(a: u8, b: u8) -> u64
-    ensures { (result ≡ nat_abs (pos a -ℤ pos b) ^ 2) × (result ≤ largest_byte ^ 2) }
-{
-    square(beyond(a, b))
-}
-
 // The squared length of the edge p q.
 fn squared_length(p: Point, q: Point) -> u64
     ensures { (result ≡ squared_length p q) × (result ≤ length_limit) }
 {
-    squared(p.x, q.x) + squared(p.y, q.y) + squared(p.z, q.z)
+    let u = beyond(p, q);
+    square(u.x) + square(u.y) + square(u.z)
 }
 
 // S: the sum of the six squared edge lengths.

@@ -2,11 +2,13 @@
 use Prim.Native.Nat.{ℕ, ◌≤◌, ◌<◌, min}
 use mathlib.Core.List.Memᴰ
 use mathlib.Core.List.{List, [], ◌∷◌, foldr, Memᴰ}
-use mathlib.Core.Path.{◌≡◌, refl, sym}
+use mathlib.Core.Path.{◌≡◌, refl, sym, ◌∙◌}
 use native.Mathlib.Decide.{dec_le}
 use native.Mathlib.Omega.{arith}
 use lib.ListN.{length}
 use Rattle.lists.proofs.Places.{in_cases, in_length}
+use Rattle.std.specs.List.{fold, reduce}
+use Rattle.std.proofs.Common.{Some}
 use Rattle.walk.specs.Walk.{smallest}
 
 least_in : (n : ℕ) (ns : List ℕ) → Memᴰ (foldr min n ns) (n ∷ ns)
@@ -53,3 +55,17 @@ pub smallest_same : (ns ms : List ℕ) → ((n : ℕ) → Memᴰ n ns → Memᴰ
 smallest_same [] ms to from = sym (smallest_none ms from)
 smallest_same (n ∷ ns) ms to from =
     smallest_is ms (smallest (n ∷ ns)) (to _ (smallest_in (n ∷ ns) (omega arith))) (λ k i. smallest_le (n ∷ ns) (from k i))
+
+-- std's word for it goes from the front
+fold_least : (n : ℕ) (ns : List ℕ) → fold min n ns ≡ foldr min n ns
+fold_least n [] = refl
+fold_least n (k ∷ ks) = fold_least (min n k) ks ∙ into n k ks
+  where
+    into : (n k : ℕ) (ks : List ℕ) → foldr min (min n k) ks ≡ min k (foldr min n ks)
+    into n k [] = omega arith
+    into n k (j ∷ js) = rw (into n k js) (omega arith)
+
+pub smallest_reduced : (ns : List ℕ) (n : ℕ) → Some n ≡ reduce min ns → n ≡ smallest ns
+unfolding smallest
+smallest_reduced [] n e = cc
+smallest_reduced (k ∷ ks) n e = let first : n ≡ fold min k ks = cc in first ∙ fold_least k ks

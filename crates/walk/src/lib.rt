@@ -24,30 +24,19 @@ pub struct Trail {
 }
 
 // A link comes to v.
-fn enters(links: Links, v: u8) -> bool
-    requires { links.n ≤ max_rows }
-    ensures { result ≡ has (ends (links_in links)) v }
+fn enters(links: &Links, v: u8) -> bool
+    requires { links.now.n ≤ max_rows }
+    ensures { result ≡ has (ends (links_in links.now)) v }
 {
-    for i in 0..links.n {
-        if v == links.ends[i] {
-            return true;
-        }
-    }
-    false
+    links.ends[..links.n].contains(&v)
 }
 
 // The smallest point from which a link goes; there is a link.
-fn smallest_start(links: Links) -> u8
-    requires { (0 < links.n) × (links.n ≤ max_rows) }
-    ensures { result ≡ smallest (starts (links_in links)) }
+fn smallest_start(links: &Links) -> u8
+    requires { (0 < links.now.n) × (links.now.n ≤ max_rows) }
+    ensures { result ≡ smallest (starts (links_in links.now)) }
 {
-    let mut least = links.starts[0];
-    for i in 1..links.n {
-        if links.starts[i] < least {
-            least = links.starts[i];
-        }
-    }
-    least
+    links.starts[..links.n].iter().copied().min().unwrap()
 }
 
 // The first point from which a link goes and to which none comes; if each is entered, the smallest. There is a link.
@@ -55,17 +44,17 @@ pub fn first_point(links: Links) -> u8
     requires { (0 < links.n) × (links.n ≤ max_rows) }
     ensures { StartsAt (links_in links) result }
 {
-    for i in 0..links.n {
-        let v = links.starts[i];
-        if !enters(links, v) {
-            return v;
+    for v in &links.starts[..links.n] {
+        if !enters(&links, *v) {
+            return *v;
         }
     }
-    smallest_start(links)
+    smallest_start(&links)
 }
 
 // The walk from a point, a link at a time: it ends at the first missing link, where no row round the edge continues it, or when it is
 // back at its start. The kept starts say which row continues it, so no other row is read.
+// Kept: two loops, one inside the other, left by a label: that form is asked for (docs/REQUIREMENT.md, §14.3).
 pub fn walk(table: &[u8], a: u8, b: u8, links: Links, start: u8) -> Trail
     requires { Around table.now a b links }
     ensures { (result.m ≤ length result.v) × (walked result ≡ circle (links_in links) start)
@@ -84,11 +73,7 @@ pub fn walk(table: &[u8], a: u8, b: u8, links: Links, start: u8) -> Trail
                 m += 1;
                 here = link.w;
                 if here == start {
-                    return Trail {
-                        closed: true,
-                        m: m,
-                        v: v,
-                    };
+                    return Trail { closed: true, m, v };
                 }
                 continue 'walk;
             }
@@ -99,6 +84,6 @@ pub fn walk(table: &[u8], a: u8, b: u8, links: Links, start: u8) -> Trail
     Trail {
         closed: false,
         m: m + 1,
-        v: v,
+        v,
     }
 }

@@ -4,7 +4,6 @@ use mathlib.Core.Bool.{Bool}
 use mathlib.Core.List.{List}
 use mathlib.Core.Path.{◌≡◌, ap, ◌∙◌}
 use native.Mathlib.Omega.{arith}
-use borrow.Author.Rules.{rules}
 use lib.ListN.{length, get_or, take, replicate, length-take, length-replicate}
 use Rattle.records.specs.Records.{part_bytes, input_at, part_in, length_at, input_in}
 use Rattle.agreement.specs.Agreement.{call_agrees, case_agrees}
@@ -33,9 +32,6 @@ at_record s filled m n h p q e =
 pub slice_bounds-call_agrees-end-2 : goal.slice_bounds-call_agrees-end-2
 slice_bounds-call_agrees-end-2 c =
     simp length-take (omega (arith, whole c.filled-out.ensures, c.length_at-n.ensures))
-
-pub call_agrees-requires : goal.call_agrees-requires
-call_agrees-requires c = (search rules, simp length-take (omega (arith, whole c.filled-out.ensures)))
 
 pub returns : goal.returns
 returns c =

@@ -1,53 +1,29 @@
 -- The call whose number is stored is the one that is run.
-use mathlib.Core.Path.{◌∙◌}
-use borrow.Author.Tests.{eq-eqb, ne_eqb}
+use Rattle.std.proofs.Common.{arith}
+use Rattle.std.proofs.lemmas.Bool.Decides.{nat_tests}
 use Rattle.agreement.specs.Agreement.{call_agrees}
-use Rattle.agreement.proofs.AnswersHeld.{chosen, skipped}
 use Rattle.agreement.proofs.call_agrees.Goals as goal
 
-pub returns-then-call-eq0 : goal.returns-then-call-eq0
+pub returns-in-Ok-Open : goal.returns-in-Ok-Open
 unfolding call_agrees
-returns-then-call-eq0 c = c.open_agrees.ensures ∙ chosen _ (eq-eqb _ _ c.if-call-eq0.true)
+returns-in-Ok-Open c = grind (arith, nat_tests)
 
-pub returns-then-call-eq1 : goal.returns-then-call-eq1
+pub returns-in-Ok-Seal : goal.returns-in-Ok-Seal
 unfolding call_agrees
-returns-then-call-eq1 c =
-    c.seal_agrees.ensures
-    ∙ chosen _ (eq-eqb _ _ c.if-call-eq1.true)
-    ∙ skipped _ (ne_eqb _ _ c.if-call-eq0.false)
+returns-in-Ok-Seal c = grind (arith, nat_tests)
 
-pub returns-then-call-eq2 : goal.returns-then-call-eq2
+pub returns-in-Ok-Summary : goal.returns-in-Ok-Summary
 unfolding call_agrees
-returns-then-call-eq2 c =
-    c.summary_agrees.ensures
-    ∙ chosen _ (eq-eqb _ _ c.if-call-eq2.true)
-    ∙ skipped _ (ne_eqb _ _ c.if-call-eq1.false)
-    ∙ skipped _ (ne_eqb _ _ c.if-call-eq0.false)
+returns-in-Ok-Summary c = grind (arith, nat_tests)
 
-pub returns-then-call-eq3 : goal.returns-then-call-eq3
+pub returns-in-Ok-Remove : goal.returns-in-Ok-Remove
 unfolding call_agrees
-returns-then-call-eq3 c =
-    c.remove_agrees.ensures
-    ∙ chosen _ (eq-eqb _ _ c.if-call-eq3.true)
-    ∙ skipped _ (ne_eqb _ _ c.if-call-eq2.false)
-    ∙ skipped _ (ne_eqb _ _ c.if-call-eq1.false)
-    ∙ skipped _ (ne_eqb _ _ c.if-call-eq0.false)
+returns-in-Ok-Remove c = grind (arith, nat_tests)
 
-pub returns-then-call-eq4 : goal.returns-then-call-eq4
+pub returns-in-Ok-Flip : goal.returns-in-Ok-Flip
 unfolding call_agrees
-returns-then-call-eq4 c =
-    c.flip_agrees.ensures
-    ∙ chosen _ (eq-eqb _ _ c.if-call-eq4.true)
-    ∙ skipped _ (ne_eqb _ _ c.if-call-eq3.false)
-    ∙ skipped _ (ne_eqb _ _ c.if-call-eq2.false)
-    ∙ skipped _ (ne_eqb _ _ c.if-call-eq1.false)
-    ∙ skipped _ (ne_eqb _ _ c.if-call-eq0.false)
+returns-in-Ok-Flip c = grind (arith, nat_tests)
 
-pub returns : goal.returns
+pub returns-in-Err : goal.returns-in-Err
 unfolding call_agrees
-returns c =
-    skipped _ (ne_eqb _ _ c.if-call-eq4.false)
-    ∙ skipped _ (ne_eqb _ _ c.if-call-eq3.false)
-    ∙ skipped _ (ne_eqb _ _ c.if-call-eq2.false)
-    ∙ skipped _ (ne_eqb _ _ c.if-call-eq1.false)
-    ∙ skipped _ (ne_eqb _ _ c.if-call-eq0.false)
+returns-in-Err c = grind (arith, nat_tests)

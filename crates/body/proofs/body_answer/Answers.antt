@@ -2,7 +2,6 @@
 use mathlib.Core.Path.{ap}
 use mathlib.Core.Bool.{Bool, true, false, not}
 use mathlib.Core.Path.{◌≡◌, sym, ◌∙◌}
-use native.Mathlib.Omega.{arith}
 use borrow.Author.Tests.{not-true, not-false}
 use Rattle.body.proofs.BodyAnswers.{refused_3, refused_4_points, refused_4_rows, refused_5, refused_7, refused_8}
 use Rattle.body.proofs.BodyAnswers.{refused_22, all_right}
@@ -17,15 +16,9 @@ told_yes r e h = sym e ∙ not-false r h
 pub returns-then-not-is_version : goal.returns-then-not-is_version
 returns-then-not-is_version c = refused_3 c.args.block.now (told_no c.is_version.result c.is_version.ensures (ap not c.if-not-is_version.true))
 
-pub overflow_cast-block : goal.overflow_cast-block
-overflow_cast-block c = omega (arith, c.type_inv.block 1)
-
 pub returns-then-block-gt-MAX_POINTS : goal.returns-then-block-gt-MAX_POINTS
 returns-then-block-gt-MAX_POINTS c =
     refused_4_points c.args.block.now (told_yes c.is_version.result c.is_version.ensures (ap not c.if-not-is_version.false)) c.if-block-gt-MAX_POINTS.true
-
-pub overflow_cast-block-2 : goal.overflow_cast-block-2
-overflow_cast-block-2 c = omega (arith, c.type_inv.block 2)
 
 pub returns-then-block-gt-MAX_ROWS : goal.returns-then-block-gt-MAX_ROWS
 returns-then-block-gt-MAX_ROWS c =

@@ -1,40 +1,20 @@
--- The loop's invariant: what is left of the slice decides.
-use Prim.Native.Nat.{ℕ}
-use mathlib.Core.Path.{◌≡◌, refl, sym, ap, ◌∙◌}
-use mathlib.Core.Bool.{true, false}
-use native.Mathlib.Numerals.{add-one}
-use native.Mathlib.Omega.{arith}
-use borrow.Author.Tests.{eq-eqb, ne_eqb}
-use lib.ListN.{drop_of_length-le}
-use lib.Seq.{drop-cons}
+-- What the chain tells is what the definition tells, byte by byte.
+use Rattle.std.proofs.Common.{rules, tests, ◌≡◌, ℕ, Bool, not, ◌||◌, eqb, List, [], ◌∷◌, refl, ap, ◌∙◌}
+use Rattle.std.specs.List.{list_any}
+use Rattle.std.proofs.lemmas.Iterator.{YieldsList-from_slice}
+use Rattle.std.proofs.lemmas.Iterator.Search.{any_from_yields_List}
 use Rattle.lists.specs.Lists.{any}
-use Rattle.lists.proofs.Lists.{any_here, any_later}
-use Rattle.body.proofs.not_zero.Invariants.{not_nought}
 use Rattle.body.proofs.not_zero.Goals as goal
 
-ne : {x : ℕ} → (x ≡ 0 → ⊥) → not_nought x ≡ true
-ne {x} h = rw (ne_eqb x 0 h)
+abbrev not_nought : ℕ → Bool
+not_nought x = not (eqb x 0)
 
-eq : {x : ℕ} → x ≡ 0 → not_nought x ≡ false
-eq {x} h = rw (eq-eqb x 0 h)
-
-pub loop-i-init : goal.loop-i-init
-loop-i-init c = (omega arith, refl, refl)
-
-pub returns-then-part-i-ne0 : goal.returns-then-part-i-ne0
-returns-then-part-i-ne0 c =
-    let l = c.loop-i in
-    let s = c.args.part.now in
-    sym (any_here not_nought (drop-cons s l.i 0 (omega arith)) (ne c.if-part-i-ne0.true)) ∙ l.invariant.2
-
-pub loop-i-preserved : goal.loop-i-preserved
-loop-i-preserved c =
-    let l = c.loop-i in
-    let s = c.args.part.now in
-    (omega arith, refl, rw add-one (sym (any_later not_nought (drop-cons s l.i 0 (omega arith)) (eq c.if-part-i-ne0.false)) ∙ l.invariant.2))
+any_is : (bytes : List ℕ) → list_any not_nought bytes ≡ any not_nought bytes
+unfolding any
+any_is [] = refl
+any_is (x ∷ xs) = ap (λ rest. not_nought x || rest) (any_is xs)
 
 pub returns : goal.returns
-unfolding any
 returns c =
-    let l = c.loop-i in
-    sym (ap (any not_nought) (drop_of_length-le c.args.part.now {i = l.i} (omega arith))) ∙ l.invariant.2
+    let bytes = c.args.part.now in
+    any_from_yields_List not_nought _ _ _ c.any.ensures.ran (YieldsList-from_slice bytes cc) (λ x b q k. search (rules, tests)) ∙ any_is bytes

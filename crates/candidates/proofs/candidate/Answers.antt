@@ -44,13 +44,8 @@ pub returns-then-uses_either : goal.returns-then-uses_either
 unfolding candidate_over
 returns-then-uses_either c = rw (sym c.uses_either.ensures ∙ c.if-uses_either.true)
 
-pub returns-in_default-beside : goal.returns-in_default-beside
-unfolding candidate_over
-returns-in_default-beside c =
-    rw (sym c.uses_either.ensures ∙ c.if-uses_either.false, ← c.worst_of_two.ensures, ← c.beside.ensures, c.in_default-beside.is)
-
 pub returns : goal.returns
 unfolding candidate_over
 returns c =
     c.beside-2.ensures
-    ∙ rw (sym c.uses_either.ensures ∙ c.if-uses_either.false, ← c.worst_of_two.ensures, ← c.beside.ensures, c.in-Worst.is)
+    ∙ rw (sym c.uses_either.ensures ∙ c.if-uses_either.false, ← c.worst_of_two.ensures, ← c.beside.ensures, c.in_ok-q.was)

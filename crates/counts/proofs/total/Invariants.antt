@@ -1,10 +1,9 @@
-use Rattle.std.proofs.Common.{◌≡◌, ◌-◌, ◌*◌, ◌%◌, ◌^◌, ◌≤◌, take}
+-- The sums are those of the cells so far, in 64 bits.
+use Rattle.std.proofs.Common.{◌≡◌, ◌%◌, ◌^◌, map, take}
 use Rattle.lists.specs.Lists.{sum as sum_of}
-use Rattle.counts.specs.CaseCounts.{calls, answers}
 use Rattle.counts.proofs.total.Given as goal
 
-abbrev pub invariant-loop-i : goal.invariant-loop-i
-invariant-loop-i l = (l.i ≤ calls * answers) × (l.sum ≡ sum_of (take l.i l.cells) % 2 ^ 64)
-
-abbrev pub decreases-loop-i : goal.decreases-loop-i
-decreases-loop-i l = calls * answers - l.i
+abbrev pub invariant-loop-cases : goal.invariant-loop-cases
+invariant-loop-cases l =
+    (l.sum.all ≡ sum_of (take l.cases-index (map (λ cases. cases.all) l.counts.cells)) % 2 ^ 64)
+    × (l.sum.agreeing ≡ sum_of (take l.cases-index (map (λ cases. cases.agreeing) l.counts.cells)) % 2 ^ 64)

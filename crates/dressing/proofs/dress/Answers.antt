@@ -18,6 +18,6 @@ returns c =
     c.dress_all.ensures
     ∙ ap (with_rows rows a.from)
     (all_dressed_alike (holds_face (a.x ∷ a.y ∷ a.z ∷ [])) (rows_in table a.n) c.requires.n_in_bounds.2
-    (rows_bytes table (λ j. omega (arith, c.type_inv.table j)) a.n) _ c.gather-count.ensures.2 _
+    (rows_bytes table (λ j. omega (arith, c.type_inv.table j)) a.n) _ c.gather.ensures _
     (λ row m. let (i, k, e) = Memᴰ.of_map (row_in rows) (numbers_from a.from (a.end - a.from)) m in
     subst Bytes e (row_bytes_lem rows (λ j. omega (arith, c.slice_known-1.given j)) i)))

@@ -3,7 +3,7 @@ use Prim.Native.Nat.{◌-◌}
 use mathlib.Core.List.{[], ◌∷◌, map}
 use mathlib.Core.Path.{◌≡◌, refl, ap, ◌∙◌}
 use native.Mathlib.Omega.{arith}
-use lib.ListN.{length, take}
+use lib.ListN.{length}
 use Rattle.lists.specs.Lists.{has, numbers_from}
 use Rattle.rows.specs.Rows.{row_in, with_rows}
 use Rattle.rows.proofs.PastedRows.{with_none, with_length}
@@ -17,19 +17,15 @@ unfolding numbers_from
 loop-i-init c =
     let a = c.args in
     let none : a.from - a.from ≡ 0 = omega arith in
-    let dress = dress_by (λ f. has (take a.n a.keys.now) (face_key f)) in
+    let dress = dress_by (λ f. has a.keys.now (face_key f)) in
     let nothing = ap (λ n. map dress (map (row_in a.rows.now) (numbers_from a.from n))) none in
     (omega arith, omega arith, refl, with_none a.rows.now a.from nothing)
-
-pub dress_row-row-requires : goal.dress_row-row-requires
-dress_row-row-requires c =
-    (c.requires.2, c.requires.3)
 
 pub loop-i-preserved : goal.loop-i-preserved
 loop-i-preserved c =
     let a = c.args in
     let i = c.loop-i.i in
-    let dress = dress_by (λ f. has (take a.n a.keys.now) (face_key f)) in
+    let dress = dress_by (λ f. has a.keys.now (face_key f)) in
     let dressed : c.dress_row-row.result ≡ dress (row_in c.loop-i.rows i) =
     c.dress_row-row.ensures ∙ ap dress c.row_in.ensures in (
       omega arith,

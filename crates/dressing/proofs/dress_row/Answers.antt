@@ -6,10 +6,10 @@ pub returns : goal.returns
 unfolding dress_by
 returns c =
     rw (
-      c.among.ensures,
-      c.among-2.ensures,
-      c.among-3.ensures,
-      c.among-4.ensures,
+      c.has.ensures,
+      c.has-2.ensures,
+      c.has-3.ensures,
+      c.has-4.ensures,
       c.face_key.ensures,
       c.face_key-2.ensures,
       c.face_key-3.ensures,

@@ -4,7 +4,6 @@ use mathlib.Core.List.{List, [], ◌∷◌, flat_map, Memᴰ}
 use mathlib.Core.Path.{◌≡◌, refl, sym, ap, ◌∙◌}
 use native.Mathlib.Numerals.{add-one}
 use native.Mathlib.Omega.{arith}
-use borrow.Author.Rules.{rules}
 use Rattle.lists.specs.Lists.{those, numbers_from}
 use Rattle.lists.proofs.Images.{flat_map_snoc}
 use Rattle.rows.specs.declared.Row.{Row}
@@ -25,41 +24,25 @@ pub returns-then-unmarked : goal.returns-then-unmarked
 returns-then-unmarked c =
     let a = c.args in
     let table = a.table.now in
-    let none = c.unmarked.ensures c.if-unmarked.true in (
-      search rules,
-      omega arith,
-      sym (no_keys (λ row. not (holds_face (a.x ∷ a.y ∷ a.z ∷ []) row)) (rows_in table a.n) λ row m.
-          let (i, h, e) = among_rows table a.n m in
-          rw e (none i)),
-    )
+    let none = c.unmarked.ensures c.if-unmarked.true in
+    c.clear.ensures
+    ∙ sym (no_keys (λ row. not (holds_face (a.x ∷ a.y ∷ a.z ∷ []) row)) (rows_in table a.n) λ row m.
+    let (i, h, e) = among_rows table a.n m in
+    rw e (none i))
 
 pub loop-i-init : goal.loop-i-init
 unfolding flat_map rows_in numbers_from
-loop-i-init c = (omega arith, search rules, omega arith, refl)
-
-pub store_marked-count-requires : goal.store_marked-count-requires
-store_marked-count-requires c =
-    let l = c.loop-i in
-    (l.invariant.1, omega (arith, l.invariant.2))
+loop-i-init c = record { room = rw c.clear.ensures (omega arith); stored = c.clear.ensures }
 
 pub loop-i-preserved : goal.loop-i-preserved
 loop-i-preserved c =
     let a = c.args in
     let i = c.loop-i.i in
     let table = a.table.now in
-    let over : Row → Bool = λ row. not (holds_face (a.x ∷ a.y ∷ a.z ∷ []) row) in (
-      omega arith,
-      c.store_marked-count.ensures.0,
-      omega (arith, c.store_marked-count.ensures.1, c.loop-i.invariant.2),
-      c.store_marked-count.ensures.2
-          ∙ rw (c.loop-i.invariant.3, c.holds_face.ensures, c.row_in-row.ensures)
+    let over : Row → Bool = λ row. not (holds_face (a.x ∷ a.y ∷ a.z ∷ []) row) in record {
+      room = omega arith;
+      stored = c.store_marked.ensures.stored
+          ∙ rw (c.loop-i.invariant.stored, c.holds_face.ensures, c.row_in-row.ensures)
           (sym (flat_map_snoc (λ row. marked_keys (over row) row) (rows_in table i) (row_in table i))
-          ∙ ap (keys_marked over) (sym (rows_more table i) ∙ ap (rows_in table) (sym (add-one i)))),
-    )
-
-pub returns : goal.returns
-returns c =
-    let l = c.loop-i in
-    let a = c.args in
-    let e : l.i ≡ a.n = omega arith in
-    (l.invariant.1, omega (arith, l.invariant.2), rw e at l.invariant.3)
+          ∙ ap (keys_marked over) (sym (rows_more table i) ∙ ap (rows_in table) (sym (add-one i))));
+    }

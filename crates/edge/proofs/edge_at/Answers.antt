@@ -1,5 +1,4 @@
 -- Each way out is one case of the laws on answers 9 to 13.
-use mathlib.Core.Path.{◌∙◌}
 use native.Mathlib.Omega.{arith}
 use Rattle.tally.proofs.OpensMeasured.{block_size}
 use Rattle.edge.proofs.EdgeAnswers.{edge_9_first, edge_9_second, edge_9_same, edge_table, edge_ring}
@@ -14,21 +13,18 @@ overflow_cast-count c = omega (arith, c.type_inv.block 1)
 pub returns-then-count-e : goal.returns-then-count-e
 returns-then-count-e c =
     let args = c.args in
-    c.no_ring.ensures
-    ∙ edge_9_first args.chains args.block.now args.e args.f c.requires c.if-count-e.true
+    edge_9_first args.chains args.block.now args.e args.f c.requires c.if-count-e.true
 
 pub returns-then-count-f : goal.returns-then-count-f
 returns-then-count-f c =
     let args = c.args in
-    c.no_ring-then-count-f.ensures
-    ∙ edge_9_second args.chains args.block.now args.e args.f c.requires c.if-count-e.false
+    edge_9_second args.chains args.block.now args.e args.f c.requires c.if-count-e.false
     c.if-count-f.true
 
 pub returns-then-e-f : goal.returns-then-e-f
 returns-then-e-f c =
     let args = c.args in
-    c.no_ring-then-e-f.ensures
-    ∙ edge_9_same args.chains args.block.now args.e args.f c.requires c.if-count-e.false
+    edge_9_same args.chains args.block.now args.e args.f c.requires c.if-count-e.false
     c.if-count-f.false c.if-e-f.true
 
 pub bounds-block-2 : goal.bounds-block-2

@@ -40,5 +40,5 @@ cell_at-at-requires c =
 
 pub returns : goal.returns
 returns c =
-    ap (λ at. get_or c.fill-pieces.result.apexes at 0) c.cell_at-at.ensures.0
+    ap (λ at. get_or c.fill-pieces.result.table.apexes at 0) c.cell_at-at.ensures.0
     ∙ top c.args.block.now c.args.e c.args.f _ c.ring_at-ring.ensures c.if-ring-eq0.false _ c.fill-pieces.ensures

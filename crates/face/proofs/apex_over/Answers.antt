@@ -1,59 +1,45 @@
--- `apex_over` asks for the four numbers of the row, in the order of the definition.
+-- `apex_over` takes the first of the row's four numbers that the face has not, in the order of the definition.
 use Prim.Native.Nat.{ℕ}
-use mathlib.Core.Bool.{Bool, true, false, not}
-use mathlib.Core.List.{List}
-use mathlib.Core.Path.{◌≡◌, sym, ◌∙◌}
-use Rattle.lists.specs.Lists.{first, has}
-use Rattle.rows.specs.declared.Row.{Row}
+use mathlib.Core.Bool.{Bool, true, false, not, cond}
+use mathlib.Core.List.{List, [], ◌∷◌}
+use mathlib.Core.Option.{some, get_or}
+use mathlib.Core.Path.{◌≡◌, refl, ap, ◌∙◌}
+use borrow.Author.Tests.{tests}
+use Rattle.std.proofs.Common.{rules}
+use Rattle.std.proofs.lemmas.Iterator.{YieldsList-from_slice}
+use Rattle.std.proofs.lemmas.Iterator.Search.{find_from_yields_List}
+use Rattle.std.proofs.lemmas.Iterator.Consumers.{YieldsList-from_copied}
+use Rattle.std.specs.declared.option.Option.{Option}
+use Rattle.std.specs.declared.option.Option.TheVariants.{Some, None}
+use Rattle.std.specs.List.{find}
+use Rattle.std.specs.Option.{unwrap_or, option_map}
+use Rattle.lists.specs.Lists.{first, first_or, has}
+use Rattle.rows.specs.Rows.{numbers}
 use Rattle.calls.specs.Flipping.{apex_over}
 use Rattle.face.proofs.apex_over.Goals as goal
 
-module _ (face : List ℕ) (row : Row) (p : Bool) (is_p : p ≡ not (has face row.p)) where
-  apex_p : p ≡ true → row.p ≡ apex_over face row
-  unfolding apex_over first
-  apex_p e = rw (sym is_p ∙ e)
+-- the library's first that passes, or 0
+found_or : (test : ℕ → Bool) (ns : List ℕ) → unwrap_or (find test ns) 0 ≡ first_or 0 test ns
+unfolding first
+found_or test [] = refl
+found_or test (n ∷ ns) = go (test n) (found_or test ns)
+  where
+    go :
+        (b : Bool) → unwrap_or (find test ns) 0 ≡ first_or 0 test ns
+        → unwrap_or (cond b (Some n) (find test ns)) 0 ≡ get_or (cond b (some n) (first test ns)) 0
+    go true rest = refl
+    go false rest = rest
 
-  module _ (p_in : p ≡ false) (q : Bool) (is_q : q ≡ not (has face row.q)) where
-    apex_q : q ≡ true → row.q ≡ apex_over face row
-    unfolding apex_over first
-    apex_q e = rw (sym is_p ∙ p_in, sym is_q ∙ e)
-
-    module _ (q_in : q ≡ false) (r : Bool) (is_r : r ≡ not (has face row.r)) where
-      apex_r : r ≡ true → row.r ≡ apex_over face row
-      unfolding apex_over first
-      apex_r e = rw (sym is_p ∙ p_in, sym is_q ∙ q_in, sym is_r ∙ e)
-
-      module _ (r_in : r ≡ false) (s : Bool) (is_s : s ≡ not (has face row.s)) where
-        apex_s : s ≡ true → row.s ≡ apex_over face row
-        unfolding apex_over first
-        apex_s e = rw (sym is_p ∙ p_in, sym is_q ∙ q_in, sym is_r ∙ r_in, sym is_s ∙ e)
-
-        apex_none : s ≡ false → 0 ≡ apex_over face row
-        unfolding apex_over first
-        apex_none e = rw (sym is_p ∙ p_in, sym is_q ∙ q_in, sym is_r ∙ r_in, sym is_s ∙ e)
-
-pub returns-then-outside : goal.returns-then-outside
-returns-then-outside c = apex_p _ _ _ c.outside.ensures c.if-outside.true
-
-pub returns-then-outside-2 : goal.returns-then-outside-2
-returns-then-outside-2 c =
-    apex_q _ _ _ c.outside.ensures c.if-outside.false _
-    c.outside-2.ensures c.if-outside-2.true
-
-pub returns-then-outside-3 : goal.returns-then-outside-3
-returns-then-outside-3 c =
-    apex_r _ _ _ c.outside.ensures c.if-outside.false _
-    c.outside-2.ensures c.if-outside-2.false _
-    c.outside-3.ensures c.if-outside-3.true
-
-pub returns-then-outside-4 : goal.returns-then-outside-4
-returns-then-outside-4 c =
-    apex_s _ _ _ c.outside.ensures c.if-outside.false _
-    c.outside-2.ensures c.if-outside-2.false _
-    c.outside-3.ensures c.if-outside-3.false _ c.outside-4.ensures c.if-outside-4.true
+unmapped : (found : Option ℕ) → unwrap_or found 0 ≡ unwrap_or (option_map (λ n. n) found) 0
+unmapped None = refl
+unmapped (Some n) = refl
 
 pub returns : goal.returns
+unfolding apex_over
 returns c =
-    apex_none _ _ _ c.outside.ensures c.if-outside.false _
-    c.outside-2.ensures c.if-outside-2.false _
-    c.outside-3.ensures c.if-outside-3.false _ c.outside-4.ensures c.if-outside-4.false
+    let ns = numbers c.args.row in
+    let test = λ (n : ℕ). not (has (c.args.x ∷ c.args.y ∷ c.args.z ∷ []) n) in
+    let found : option_map (λ n. n) c.find.result ≡ find test ns =
+    find_from_yields_List test _ _ _ c.find.ensures.ran (YieldsList-from_copied (YieldsList-from_slice ns cc))
+    (λ x b q k. search (rules, tests)) in
+    c.unwrap_or.ensures ∙ unmapped c.find.result ∙ ap (λ o. unwrap_or o 0) found ∙ found_or test ns

@@ -31,10 +31,6 @@ module _ (table one two three : List ℕ) (at : ℕ) (found : Sharing) (region u
       ∙ with_more table at (at + 2) (r ∷ s ∷ []) (t ∷ []) refl (omega arith)
       ∙ ap (λ (l : Link). with_rows table at (three_of found region u l.0 l.1)) follow
 
-pub put_row-requires-3 : goal.put_row-requires-3
-put_row-requires-3 c =
-    omega (arith, c.rows-2-1.given, c.rows-1.given, c.requires.at_in_bounds)
-
 pub returns : goal.returns
 returns c =
     all_three c.args.rows.now _ _ _ c.args.at c.args.found c.args.region c.args.u c.link_of-after.result.v

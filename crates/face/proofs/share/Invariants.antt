@@ -1,4 +1,3 @@
-use Prim.Native.Nat.{◌≤◌, ◌-◌}
 use mathlib.Core.List.{[], ◌∷◌}
 use mathlib.Core.Path.{◌≡◌}
 use Rattle.rows.specs.Rows.{rows_in}
@@ -6,7 +5,4 @@ use Rattle.face.specs.Steps.{sharing_in}
 use Rattle.face.proofs.share.Given as goal
 
 abbrev pub invariant-loop-i : goal.invariant-loop-i
-invariant-loop-i l = (l.i ≤ l.n) × (l.found ≡ sharing_in (rows_in l.table l.i) (l.x ∷ l.y ∷ l.z ∷ []))
-
-abbrev pub decreases-loop-i : goal.decreases-loop-i
-decreases-loop-i l = l.n - l.i
+invariant-loop-i l = l.found ≡ sharing_in (rows_in l.table l.i) (l.x ∷ l.y ∷ l.z ∷ [])

@@ -13,40 +13,38 @@ bounds-block-2 c =
 pub overflow_cast-n : goal.overflow_cast-n
 overflow_cast-n c = omega (arith, c.type_inv.block 2)
 
-pub share-found-requires : goal.share-found-requires
-share-found-requires c =
+pub share-requires : goal.share-requires
+share-requires c =
     let block = c.args.block.now in
     (omega (arith, few_rows block c.requires.opens, block_size block c.requires.opens), few_rows block c.requires.opens)
 
-pub returns-then-found-eq0 : goal.returns-then-found-eq0
-returns-then-found-eq0 c =
+pub returns-in_default : goal.returns-in_default
+returns-in_default c =
     let a = c.args in
-    let both =
-    is_10 a.block.now a.out.now a.x a.y a.z c.requires c.share-found.result c.share-found.ensures c.if-found-eq0.true in
+    let both = is_10 a.block.now a.out.now a.x a.y a.z c.requires (rw c.in_default.is at c.share.ensures) in
     record { answer = both.0; bytes = both.1 }
 
 pub returns-then-found-eq1 : goal.returns-then-found-eq1
 returns-then-found-eq1 c =
     let a = c.args in
     let both =
-    is_11 a.block.now a.out.now a.x a.y a.z c.requires c.share-found.result c.share-found.ensures
-    c.if-found-eq0.false c.if-found-eq1.true in
+    is_11 a.block.now a.out.now a.x a.y a.z c.requires c.in-Some.found c.in-Some.ensures c.if-found-eq1.true in
     record { answer = both.0; bytes = both.1 }
 
 pub returns-then-found : goal.returns-then-found
 returns-then-found c =
     let a = c.args in
     let both =
-    is_18 a.block.now a.out.now a.x a.y a.z c.requires c.share-found.result c.share-found.ensures c.if-found-eq0.false
+    is_18 a.block.now a.out.now a.x a.y a.z c.requires c.in-Some.found c.in-Some.ensures
     c.if-found-eq1.false c.if-found.true in
     record { answer = both.0; bytes = both.1 }
 
-pub returns-in_default : goal.returns-in_default
-returns-in_default c =
+pub returns-in_default-regions : goal.returns-in_default-regions
+returns-in_default-regions c =
     let a = c.args in
     let both =
-    is_20 a.block.now a.out.now a.x a.y a.z c.requires c.share-found.result c.share-found.ensures c.if-found-eq0.false
-    c.if-found-eq1.false c.if-found.false c.in_default.is in
+    is_20 a.block.now a.out.now a.x a.y a.z c.requires c.in-Some.found c.in-Some.ensures
+    c.if-found-eq1.false c.if-found.false c.in_default-regions.is in
     record { answer = both.0; bytes = both.1 }
 
 pub mark_goes-requires : goal.mark_goes-requires
@@ -57,7 +55,7 @@ pub returns-then-mark_goes : goal.returns-then-mark_goes
 returns-then-mark_goes c =
     let a = c.args in
     let both =
-    is_23 a.block.now a.out.now a.x a.y a.z c.requires c.share-found.result c.share-found.ensures c.if-found-eq0.false
+    is_23 a.block.now a.out.now a.x a.y a.z c.requires c.in-Some.found c.in-Some.ensures
     c.if-found-eq1.false c.if-found.false _ c.in-One.is _ c.mark_goes.ensures c.if-mark_goes.true in
     record { answer = both.0; bytes = both.1 }
 
@@ -76,7 +74,7 @@ pub returns-then-kept-gt-MAX_ROWS : goal.returns-then-kept-gt-MAX_ROWS
 returns-then-kept-gt-MAX_ROWS c =
     let a = c.args in
     let both =
-    is_14 a.block.now a.out.now a.x a.y a.z c.requires c.share-found.result c.share-found.ensures c.if-found-eq0.false
+    is_14 a.block.now a.out.now a.x a.y a.z c.requires c.in-Some.found c.in-Some.ensures
     c.if-found-eq1.false c.if-found.false _ c.in-One.is _ c.mark_goes.ensures
     c.if-mark_goes.false _ c.begin.ensures _ _ c.keep_others-kept.ensures.0 c.keep_others-kept.ensures.1 c.if-kept-gt-MAX_ROWS.true in
     record { answer = both.0; bytes = both.1 }
@@ -84,14 +82,14 @@ returns-then-kept-gt-MAX_ROWS c =
 pub put_three-requires : goal.put_three-requires
 put_three-requires c =
     let a = c.args in
-    let size = keep_size a.block.now a.out.now a.x a.y a.z c.requires c.share-found.result c.share-found.ensures c.if-found-eq0.false
+    let size = keep_size a.block.now a.out.now a.x a.y a.z c.requires c.in-Some.found c.in-Some.ensures
     c.if-found-eq1.false c.if-found.false _ c.in-One.is _ c.mark_goes.ensures
     c.if-mark_goes.false _ c.begin.ensures _ _ c.keep_others-kept.ensures.0 c.keep_others-kept.ensures.1 in
     record {
       at_in_bounds =
           omega (arith, c.if-kept-gt-MAX_ROWS.false);
       linked_row =
-          found_linked a.block.now a.out.now a.x a.y a.z c.requires c.share-found.result c.share-found.ensures c.if-found-eq0.false
+          found_linked a.block.now a.out.now a.x a.y a.z c.requires c.in-Some.found c.in-Some.ensures
           c.if-found-eq1.false c.if-found.false _ c.in-One.is _ c.mark_goes.ensures
           c.if-mark_goes.false _ c.begin.ensures _ _ c.keep_others-kept.ensures.0 c.keep_others-kept.ensures.1 c.least.result c.least.ensures;
     }
@@ -99,7 +97,7 @@ put_three-requires c =
 pub dress-requires : goal.dress-requires
 dress-requires c =
     let a = c.args in
-    let size = two_size a.block.now a.out.now a.x a.y a.z c.requires c.share-found.result c.share-found.ensures c.if-found-eq0.false
+    let size = two_size a.block.now a.out.now a.x a.y a.z c.requires c.in-Some.found c.in-Some.ensures
     c.if-found-eq1.false c.if-found.false _ c.in-One.is _ c.mark_goes.ensures
     c.if-mark_goes.false _ c.begin.ensures _ _ c.keep_others-kept.ensures.0 c.keep_others-kept.ensures.1 c.if-kept-gt-MAX_ROWS.false c.least.result
     c.least.ensures _ c.put_three.ensures in
@@ -122,7 +120,7 @@ overflow_cast-block c = omega (arith, c.type_inv.block 1)
 pub keeps_mesh_rule-requires : goal.keeps_mesh_rule-requires
 keeps_mesh_rule-requires c =
     let a = c.args in
-    let size = table_size a.block.now a.out.now a.x a.y a.z c.requires c.share-found.result c.share-found.ensures c.if-found-eq0.false
+    let size = table_size a.block.now a.out.now a.x a.y a.z c.requires c.in-Some.found c.in-Some.ensures
     c.if-found-eq1.false c.if-found.false _ c.in-One.is _ c.mark_goes.ensures
     c.if-mark_goes.false _ c.begin.ensures _ _ c.keep_others-kept.ensures.0 c.keep_others-kept.ensures.1 c.if-kept-gt-MAX_ROWS.false c.least.result
     c.least.ensures _ c.put_three.ensures _ c.dress.ensures in
@@ -132,7 +130,7 @@ pub returns-then-not-keeps_mesh_rule : goal.returns-then-not-keeps_mesh_rule
 returns-then-not-keeps_mesh_rule c =
     let a = c.args in
     let both =
-    is_15 a.block.now a.out.now a.x a.y a.z c.requires c.share-found.result c.share-found.ensures c.if-found-eq0.false
+    is_15 a.block.now a.out.now a.x a.y a.z c.requires c.in-Some.found c.in-Some.ensures
     c.if-found-eq1.false c.if-found.false _ c.in-One.is _ c.mark_goes.ensures
     c.if-mark_goes.false _ c.begin.ensures _ _ c.keep_others-kept.ensures.0 c.keep_others-kept.ensures.1 c.if-kept-gt-MAX_ROWS.false c.least.result
     c.least.ensures _ c.put_three.ensures _ c.dress.ensures _ c.keeps_mesh_rule.ensures (c.if-not-keeps_mesh_rule.true) in
@@ -141,7 +139,7 @@ returns-then-not-keeps_mesh_rule c =
 pub finish-requires : goal.finish-requires
 finish-requires c =
     let a = c.args in (
-      table_size a.block.now a.out.now a.x a.y a.z c.requires c.share-found.result c.share-found.ensures c.if-found-eq0.false
+      table_size a.block.now a.out.now a.x a.y a.z c.requires c.in-Some.found c.in-Some.ensures
           c.if-found-eq1.false c.if-found.false _ c.in-One.is _ c.mark_goes.ensures
           c.if-mark_goes.false _ c.begin.ensures _ _ c.keep_others-kept.ensures.0 c.keep_others-kept.ensures.1 c.if-kept-gt-MAX_ROWS.false c.least.result
           c.least.ensures _ c.put_three.ensures _ c.dress.ensures,
@@ -151,7 +149,7 @@ finish-requires c =
 pub copy-requires : goal.copy-requires
 copy-requires c =
     let a = c.args in
-    let own = done_size a.block.now a.out.now a.x a.y a.z c.requires c.share-found.result c.share-found.ensures c.if-found-eq0.false
+    let own = done_size a.block.now a.out.now a.x a.y a.z c.requires c.in-Some.found c.in-Some.ensures
     c.if-found-eq1.false c.if-found.false _ c.in-One.is _ c.mark_goes.ensures
     c.if-mark_goes.false _ c.begin.ensures _ _ c.keep_others-kept.ensures.0 c.keep_others-kept.ensures.1 c.if-kept-gt-MAX_ROWS.false c.least.result
     c.least.ensures _ c.put_three.ensures _ c.dress.ensures (all_bytes a.block.now c.type_inv.block) _ c.finish.ensures in
@@ -161,7 +159,7 @@ pub returns : goal.returns
 returns c =
     let a = c.args in
     let both =
-    is_0 a.block.now a.out.now a.x a.y a.z c.requires c.share-found.result c.share-found.ensures c.if-found-eq0.false
+    is_0 a.block.now a.out.now a.x a.y a.z c.requires c.in-Some.found c.in-Some.ensures
     c.if-found-eq1.false c.if-found.false _ c.in-One.is _ c.mark_goes.ensures
     c.if-mark_goes.false _ c.begin.ensures _ _ c.keep_others-kept.ensures.0 c.keep_others-kept.ensures.1 c.if-kept-gt-MAX_ROWS.false c.least.result
     c.least.ensures _ c.put_three.ensures _ c.dress.ensures _ c.keeps_mesh_rule.ensures (c.if-not-keeps_mesh_rule.false)

@@ -1,16 +1,16 @@
--- By the case of the answer.
-use borrow.Author.Tests.{eq-eqb, ne_eqb}
-use Rattle.figures.specs.Figures.{removal_is}
+-- The answer, then the page row.
+use mathlib.Core.Path.{◌≡◌, ◌∙◌}
+use Rattle.std.proofs.Common.{rules}
+use Rattle.figures.specs.Figures.{page_is}
+use Rattle.figures.proofs.AnswerFirst.{given_is, both_removal, same_answer, other_answer}
 use Rattle.figures.proofs.removal_is.Goals as goal
 
-pub returns-then-stored-ne0 : goal.returns-then-stored-ne0
-unfolding removal_is
-returns-then-stored-ne0 c = rw (c.in-Done.is, ne_eqb _ _ c.if-stored-ne0.true)
+pub returns-then-answer_is : goal.returns-then-answer_is
+returns-then-answer_is c =
+    let stored = c.args.stored.now in
+    let given : c.map_or.result ≡ given_is (λ page. page_is page stored) c.args.removal = search rules in
+    same_answer c.answer_is.ensures c.if-answer_is.true given ∙ both_removal c.args.removal stored
 
-pub returns-else-stored-ne0 : goal.returns-else-stored-ne0
-unfolding removal_is
-returns-else-stored-ne0 c = rw (c.in-Done.is, eq-eqb _ _ c.if-stored-ne0.false) c.page_is.ensures
-
-pub returns-in-Refused : goal.returns-in-Refused
-unfolding removal_is
-returns-in-Refused c = rw c.in-Refused.is
+pub returns-else-answer_is : goal.returns-else-answer_is
+returns-else-answer_is c =
+    other_answer _ c.answer_is.ensures c.if-answer_is.false ∙ both_removal c.args.removal c.args.stored.now

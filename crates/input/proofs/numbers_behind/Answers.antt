@@ -9,5 +9,5 @@ use Rattle.input.proofs.numbers_behind.Goals as goal
 pub returns : goal.returns
 returns c =
     let input = c.args.input.now in
-    let n = c.smaller-n.ensures ∙ ap (λ k. min most_numbers (length input - k)) c.block_length.ensures in
+    let n = c.min-n.ensures ∙ ap (λ k. min most_numbers (length input - k)) c.block_length.ensures in
     behind input n c.number_at-first.ensures c.number_at-second.ensures c.number_at-third.ensures c.number_at-fourth.ensures

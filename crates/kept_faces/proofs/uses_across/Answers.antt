@@ -4,11 +4,11 @@ use Rattle.kept_faces.proofs.uses_across.Goals as goal
 pub returns-then-closed : goal.returns-then-closed
 returns-then-closed c = rw c.if-closed.true
 
-pub returns-then-among : goal.returns-then-among
-returns-then-among c =
-    rw (c.if-closed.false, ← c.face_key.ensures, ← c.among.ensures, c.if-among.true)
+pub returns-then-has : goal.returns-then-has
+returns-then-has c =
+    rw (c.if-closed.false, ← c.face_key.ensures, ← c.has.ensures, c.if-has.true)
 
 pub returns : goal.returns
 returns c =
-    rw (c.if-closed.false, ← c.face_key.ensures, ← c.among.ensures, c.if-among.false, ← c.face_key-2.ensures)
-    c.among-2.ensures
+    rw (c.if-closed.false, ← c.face_key.ensures, ← c.has.ensures, c.if-has.false, ← c.face_key-2.ensures)
+    c.has-2.ensures

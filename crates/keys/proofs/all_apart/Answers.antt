@@ -4,19 +4,22 @@ use mathlib.Core.Bool.{◌&&◌}
 use mathlib.Core.Path.{◌≡◌, refl, sym, ap, ◌∙◌}
 use native.Mathlib.Numerals.{add-one}
 use native.Mathlib.Omega.{arith}
-use borrow.Author.Rules.{rules}
 use Rattle.lists.specs.Lists.{numbers_from}
 use Rattle.rows.specs.Rows.{rows_in}
+use Rattle.rows.proofs.RowsOfTables.{rows_length}
 use Rattle.mesh.specs.Mesh.{faces_apart}
-use Rattle.keys.proofs.CheckedByKeys.{row_checked, apart_longer}
+use Rattle.keys.proofs.CheckedByKeys.{keys_length, row_checked, apart_longer}
 use Rattle.keys.proofs.all_apart.Goals as goal
 
 pub loop-row-init : goal.loop-row-init
 unfolding faces_apart rows_in numbers_from
-loop-row-init c = (omega arith, search rules, refl)
+loop-row-init c = refl
 
 pub row_apart-requires : goal.row_apart-requires
-row_apart-requires c = (search rules, omega arith)
+row_apart-requires c =
+    let table = c.args.table.now in
+    let n = c.args.n in
+    rw (c.as_slice-all.ensures, c.store_all.ensures) (omega (arith, keys_length (rows_in table n), rows_length table n))
 
 pub returns-then-not-row_apart : goal.returns-then-not-row_apart
 returns-then-not-row_apart c =
@@ -24,7 +27,7 @@ returns-then-not-row_apart c =
     let i = c.loop-row.row in
     -- with this row, the rows are apart if they were and the call of `row_apart` says so
     let more =
-    row_checked a.table.now _ a.n c.store_all.ensures.1 (λ j. omega (arith, c.type_inv.table j)) i (omega arith)
+    row_checked a.table.now _ a.n (c.as_slice-all.ensures ∙ c.store_all.ensures) (λ j. omega (arith, c.type_inv.table j)) i (omega arith)
     c.row_apart.result c.row_apart.ensures in
     let no = c.if-not-row_apart.true in
     sym (apart_longer a.table.now (suc i) a.n (omega arith) (more
@@ -36,16 +39,12 @@ loop-row-preserved c =
     let i = c.loop-row.row in
     -- with this row, the rows are apart if they were and the call of `row_apart` says so
     let more =
-    row_checked a.table.now _ a.n c.store_all.ensures.1 (λ j. omega (arith, c.type_inv.table j)) i (omega arith)
-    c.row_apart.result c.row_apart.ensures in (
-      omega arith,
-      c.loop-row.invariant.1,
-      rw (add-one i, more, c.if-not-row_apart.false) c.loop-row.invariant.2,
-    )
+    row_checked a.table.now _ a.n (c.as_slice-all.ensures ∙ c.store_all.ensures) (λ j. omega (arith, c.type_inv.table j)) i (omega arith)
+    c.row_apart.result c.row_apart.ensures in rw (add-one i, more, c.if-not-row_apart.false) c.loop-row.invariant
 
 pub returns : goal.returns
 returns c =
     let l = c.loop-row in
     let a = c.args in
     let e : l.row ≡ a.n = omega arith in
-    sym (rw e at l.invariant.2)
+    sym (rw e at l.invariant)

@@ -1,37 +1,17 @@
--- The invariant of `some_among`: `found` says whether one of the four keys stands among the first i.
-use Prim.Native.Nat.{◌<◌}
-use mathlib.Core.Path.{◌≡◌, refl, sym, ap, ◌∙◌}
-use mathlib.Core.Bool.{◌||◌}
-use native.Mathlib.Numerals.{add-one}
+-- The invariant of `some_among`: `found` says whether one of the four keys stands among those looked at.
+use mathlib.Core.Path.{refl}
 use native.Mathlib.Omega.{arith}
-use lib.ListN.{length, get_or, take}
-use lib.Seq.{take-suc}
 use Rattle.lists.specs.Lists.{any}
-use Rattle.lists.proofs.Lists.{any_snoc}
 use Rattle.keys.specs.Steps.{one_of}
+use Rattle.keys.proofs.OneMoreLookedAt.{one_more}
 use Rattle.keys.proofs.some_among.Goals as goal
 
-pub loop-i-init : goal.loop-i-init
+pub loop-key-init : goal.loop-key-init
 unfolding any
-loop-i-init c = (omega arith, refl)
+loop-key-init c = refl
 
-pub loop-i-preserved : goal.loop-i-preserved
+pub loop-key-preserved : goal.loop-key-preserved
 unfolding one_of
-loop-i-preserved c =
+loop-key-preserved c =
     let a = c.args in
-    let i = c.loop-i.i in
-    let keys = a.keys.now in
-    let hit = one_of a.a a.b a.c a.d in
-    let h : i < length keys = omega arith in (
-      omega arith,
-      ap (λ b. b || hit (get_or keys i 0)) c.loop-i.invariant.1
-          ∙ sym (any_snoc hit (take i keys) (get_or keys i 0))
-          ∙ ap (any hit) (sym (take-suc keys i 0 h) ∙ ap (λ n. take n keys) (sym (add-one i))),
-    )
-
-pub returns : goal.returns
-returns c =
-    let l = c.loop-i in
-    let a = c.args in
-    let e : l.i ≡ a.n = omega arith in
-    rw e at l.invariant.1
+    one_more (one_of a.a a.b a.c a.d) _ c.loop-key.key-index c.loop-key.found (omega arith) c.loop-key.invariant

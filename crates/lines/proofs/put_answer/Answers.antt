@@ -4,15 +4,6 @@ use Rattle.text.proofs.BytesBehindAText.{then_put}
 use Rattle.lines.proofs.FieldsOfALine.{field_put, end_put}
 use Rattle.lines.proofs.put_answer.Goals as goal
 
-pub put_word-requires : goal.put_word-requires
-put_word-requires c = tt
-
-pub put_number-requires : goal.put_number-requires
-put_number-requires c = tt
-
-pub put_end-requires : goal.put_end-requires
-put_end-requires c = tt
-
 pub returns : goal.returns
 unfolding line text
 returns c =

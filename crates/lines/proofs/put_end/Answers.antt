@@ -2,9 +2,6 @@
 use Rattle.lines.specs.Lines.{text, line_end}
 use Rattle.lines.proofs.put_end.Goals as goal
 
-pub put_byte-requires : goal.put_byte-requires
-put_byte-requires c = tt
-
 pub returns : goal.returns
 unfolding line_end text
 returns c = c.put_byte.ensures

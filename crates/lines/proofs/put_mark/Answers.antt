@@ -2,9 +2,6 @@
 use Rattle.lines.specs.Lines.{text, spaced, mark}
 use Rattle.lines.proofs.put_mark.Goals as goal
 
-pub put_word-requires : goal.put_word-requires
-put_word-requires c = tt
-
 pub returns : goal.returns
 unfolding spaced mark text
 returns c = c.put_word.ensures

@@ -3,12 +3,6 @@ use Rattle.lines.specs.Lines.{text, spaced}
 use Rattle.text.proofs.BytesBehindAText.{then_put}
 use Rattle.lines.proofs.put_number.Goals as goal
 
-pub put_byte-requires : goal.put_byte-requires
-put_byte-requires c = tt
-
-pub put_decimal-requires : goal.put_decimal-requires
-put_decimal-requires c = tt
-
 pub returns : goal.returns
 unfolding spaced text
 returns c = then_put c.put_byte.ensures c.put_decimal.ensures

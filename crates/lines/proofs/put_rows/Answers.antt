@@ -19,9 +19,6 @@ loop-i-init c =
     let none = drop_of_length-le (rows_in a.table.now a.from) {i = a.from} (omega (arith, rows_length a.table.now a.from)) in
     (omega arith, omega arith, rw none (none_put _))
 
-pub put_row-lines-requires : goal.put_row-lines-requires
-put_row-lines-requires c = tt
-
 pub loop-i-preserved : goal.loop-i-preserved
 loop-i-preserved c =
     let a = c.args in

@@ -3,7 +3,6 @@ use mathlib.Core.Bool.{true, false}
 use mathlib.Core.Path.{◌≡◌, refl, sym, ◌∙◌}
 use native.Mathlib.Numerals.{add-one}
 use native.Mathlib.Omega.{arith}
-use lib.ListN.{take}
 use Rattle.lists.specs.Lists.{every, numbers_from}
 use Rattle.lists.proofs.Lists.{every_no, every_snoc}
 use Rattle.rows.specs.Rows.{row_in, rows_in}
@@ -19,38 +18,31 @@ returns-then-unmarked c =
 
 pub loop-i-init : goal.loop-i-init
 unfolding every rows_in numbers_from
-loop-i-init c = (omega arith, refl)
-
-pub row_agrees-requires : goal.row_agrees-requires
-row_agrees-requires c =
-    let s = c.store_all-count.ensures in
-    (s.0, s.1)
+loop-i-init c = refl
 
 pub returns-then-not-row_agrees : goal.returns-then-not-row_agrees
 returns-then-not-row_agrees c =
-    let stored = c.store_all-count.ensures.2 in
     let table = c.args.table.now in
     let n = c.args.n in
     let i = c.loop-i.i in
     let told = rw c.row_in.ensures at c.row_agrees.ensures in
-    let test = row_test (take c.store_all-count.result c.store_all-count.new.keys) in
+    let test = row_test c.store_all.new.keys in
     let no : test (row_in table i) ≡ false = sym told ∙ c.if-not-row_agrees.true in
     sym (agree_by_keys (rows_in table n) (rows_bytes table (λ j. omega (arith, c.type_inv.table j)) n)
-    ∙ rw (← stored) (every_no test (rows_in table n) (row_among table n i (omega arith)) no))
+    ∙ rw (← c.store_all.ensures) (every_no test (rows_in table n) (row_among table n i (omega arith)) no))
 
 pub loop-i-preserved : goal.loop-i-preserved
 loop-i-preserved c =
     let table = c.args.table.now in
     let i = c.loop-i.i in
     let told = rw c.row_in.ensures at c.row_agrees.ensures in
-    let test = row_test (take c.store_all-count.result c.store_all-count.new.keys) in
+    let test = row_test c.store_all.new.keys in
     let yes : test (row_in table i) ≡ true = sym told ∙ c.if-not-row_agrees.false in
-    (omega arith, rw (add-one i, rows_more table i, every_snoc test (rows_in table i) (row_in table i), c.loop-i.invariant.1, yes))
+    rw (add-one i, rows_more table i, every_snoc test (rows_in table i) (row_in table i), c.loop-i.invariant, yes)
 
 pub returns : goal.returns
 returns c =
-    let l = c.loop-i in
-    let stored = c.store_all-count.ensures.2 in
     let table = c.args.table.now in
-    let e : l.i ≡ c.args.n = omega arith in
-    sym (agree_by_keys (rows_in table c.args.n) (rows_bytes table (λ j. omega (arith, c.type_inv.table j)) c.args.n) ∙ rw (← stored, ← e) l.invariant.1)
+    let e : c.loop-i.i ≡ c.args.n = omega arith in
+    sym (agree_by_keys (rows_in table c.args.n) (rows_bytes table (λ j. omega (arith, c.type_inv.table j)) c.args.n)
+    ∙ rw (← c.store_all.ensures, ← e) c.loop-i.invariant)

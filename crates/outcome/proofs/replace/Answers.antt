@@ -1,37 +1,32 @@
 -- The chosen triangulation is carried out, and the page row is of the rows before and after.
-use native.Mathlib.Omega.{arith}
-use Rattle.tally.proofs.OpensMeasured.{block_size}
 use Rattle.outcome.proofs.RowsAfterwards.{carriable, measured, replaced}
 use Rattle.outcome.proofs.replace.Goals as goal
 
-pub bounds-block-1 : goal.bounds-block-1
-bounds-block-1 c = omega (arith, (block_size c.args.block.now c.requires.block_value.0))
+pub in_block-edge-requires : goal.in_block-edge-requires
+in_block-edge-requires c =
+    let (opens, given) = c.requires.block_value in
+    record { opens = opens; ends = given.ends; ringed = given.ringed }
 
-pub bounds-block-2 : goal.bounds-block-2
-bounds-block-2 c = omega (arith, (block_size c.args.block.now c.requires.block_value.0))
-
-pub slice_bounds-coordinates-end : goal.slice_bounds-coordinates-end
-slice_bounds-coordinates-end c = omega (arith, (block_size c.args.block.now c.requires.block_value.0))
-
-pub carry_out-end-requires : goal.carry_out-end-requires
-carry_out-end-requires c =
+pub carry_out-n-requires : goal.carry_out-n-requires
+carry_out-n-requires c =
     let args = c.args in
-    let given = c.requires.block_value.1 in
-    rw (c.smaller-a.ensures, c.larger-b.ensures)
-    (record {
-      ringed = given.ringed;
-      carriable = carriable args.block.now args.e args.f given c.requires.apexes_len.0 c.requires.apexes_len.1 c.requires.apexes_len.2;
-    })
+    let (whole, place, same) = c.requires.apexes_len in
+    carriable args.block.now args.e args.f c.requires.block_value.1 c.in_block-edge.ensures whole place same
 
-pub page_row-requires : goal.page_row-requires
-page_row-requires c =
+pub of_block-before-requires : goal.of_block-before-requires
+of_block-before-requires c = c.requires.block_value.0
+
+pub of_table-after-requires : goal.of_table-after-requires
+of_table-after-requires c =
     let args = c.args in
-    let given = c.requires.block_value.1 in
-    let (number, table) = rw (c.smaller-a.ensures, c.larger-b.ensures) at c.carry_out-end.ensures in
-    (given.ringed.measured, measured args.block.now args.e args.f given args.rows.now c.requires.apexes_len.1 c.requires.apexes_len.2 _ number _ table)
+    let (whole, place, same) = c.requires.apexes_len in
+    let (number, table) = c.carry_out-n.ensures in
+    measured args.block.now args.e args.f c.requires.block_value.1 args.rows.now place same c.in_block-edge.ensures _ number _ table
 
 pub returns : goal.returns
 returns c =
     let args = c.args in
-    let (number, table) = rw (c.smaller-a.ensures, c.larger-b.ensures) at c.carry_out-end.ensures in
-    replaced args.block.now args.e args.f c.requires.block_value.1 args.rows.now c.requires.apexes_len.1 c.requires.apexes_len.2 _ number _ table _ c.page_row.ensures
+    let (whole, place, same) = c.requires.apexes_len in
+    let (number, table) = c.carry_out-n.ensures in
+    replaced args.block.now args.e args.f c.requires.block_value.1 args.rows.now place same c.in_block-edge.ensures _ number _ table
+    c.of_block-before.ensures c.of_table-after.ensures _ c.page_row.ensures

@@ -1,4 +1,4 @@
--- `begin` copies the front and clears the bytes of the rows.
+-- `begin` copies the front and fills the bytes of the rows with zeros.
 use mathlib.Core.Path.{refl}
 use native.Mathlib.Omega.{arith}
 use Rattle.block.proofs.RightBlocks.{right_block}
@@ -12,4 +12,4 @@ slice_bounds-copy-end c =
 pub returns : goal.returns
 returns c =
     front_cleared c.args.block.now c.args.out.now _ _ _ c.requires.0 c.requires.1
-    c.copy.ensures c.clear.ensures refl
+    c.copy.ensures (c.fill.ensures.after (λ y e. e)) refl

@@ -1,43 +1,29 @@
--- A refusal of opening is handed on; a block that opens can be measured.
-use native.Mathlib.Omega.{arith}
+-- A refusal of opening is passed on; the rows of a block that opens can be measured.
+use mathlib.Core.Path.{sym, ap, ◌∙◌}
+use Rattle.std.specs.Prelude.{Ok}
+use Rattle.std.proofs.lemmas.Result.{err_from_is_err_and}
+use Rattle.answers.specs.Answers.{gives}
+use Rattle.answers.proofs.Refusals.{given_done, refused_same}
+use Rattle.layout.specs.Layout.{fields_of}
 use Rattle.block.specs.Opening.{open_answer}
-use Rattle.tally.proofs.OpensMeasured.{block_size, opens_measured}
-use Rattle.calls.proofs.HandedOn.{handed_done}
-use Rattle.patch.proofs.SummaryByOpening.{summed_refused, summed_done}
+use Rattle.summary.specs.Summary.{summary_of}
+use Rattle.calls.specs.Summarising.{summary_gives}
 use Rattle.patch.proofs.summary.Goals as goal
 
-pub returns-in-Refused : goal.returns-in-Refused
-returns-in-Refused c =
-    summed_refused c.args.block.now _ _ c.opening-opened.ensures c.in-Refused.is
-
-pub bounds-block-1 : goal.bounds-block-1
-bounds-block-1 c =
+pub returns-in_err-opening : goal.returns-in_err-opening
+unfolding summary_gives
+returns-in_err-opening c =
+    let p = err_from_is_err_and c.from_residual.result c.from_residual.ensures.1 in
     let block = c.args.block.now in
-    omega (arith, block_size block (handed_done (open_answer block) _ c.opening-opened.ensures c.in_default.is))
+    rw (p.1, p.2) (sym (refused_same (open_answer block) tt (summary_of (fields_of block)) (sym c.opening.ensures ∙ c.in_err-opening.was)))
 
-pub overflow_cast-count : goal.overflow_cast-count
-overflow_cast-count c = omega (arith, c.type_inv.block 1)
-
-pub bounds-block-2 : goal.bounds-block-2
-bounds-block-2 c =
-    let block = c.args.block.now in
-    omega (arith, block_size block (handed_done (open_answer block) _ c.opening-opened.ensures c.in_default.is))
-
-pub overflow_cast-n : goal.overflow_cast-n
-overflow_cast-n c = omega (arith, c.type_inv.block 2)
-
-pub slice_bounds-summary_of-end : goal.slice_bounds-summary_of-end
-slice_bounds-summary_of-end c =
-    let block = c.args.block.now in
-    omega (arith, block_size block (handed_done (open_answer block) _ c.opening-opened.ensures c.in_default.is))
-
-pub summary_of-requires : goal.summary_of-requires
-summary_of-requires c =
-    let block = c.args.block.now in
-    opens_measured block (handed_done (open_answer block) _ c.opening-opened.ensures c.in_default.is)
+pub of_block-requires : goal.of_block-requires
+of_block-requires c = given_done (open_answer c.args.block.now) tt tt (sym c.opening.ensures ∙ c.in_ok-opening.was)
 
 pub returns : goal.returns
+unfolding summary_gives
 returns c =
     let block = c.args.block.now in
-    summed_done block _ (handed_done (open_answer block) _ c.opening-opened.ensures
-    c.in_default.is) c.summary_of.ensures
+    let opens = given_done (open_answer block) tt tt (sym c.opening.ensures ∙ c.in_ok-opening.was) in
+    ap Ok (c.summary_of.ensures ∙ ap summary_of c.of_block.ensures)
+    ∙ sym (ap (λ n. gives n (summary_of (fields_of block))) opens)

@@ -10,18 +10,18 @@ use Rattle.kept_faces.proofs.SiteOnRim.{size_is, ring_is_lem, rimmed, site_rim, 
 use Rattle.pieces.proofs.TableFilled.{keeps_open, keeps_barred}
 use Rattle.pieces.proofs.fill.Goals as goal
 
-pub gather-found-requires : goal.gather-found-requires
-gather-found-requires c =
+pub gather-requires : goal.gather-requires
+gather-requires c =
     let fillable = c.requires in
-    (search rules, fillable.rows, omega (arith, fillable.few_rows), omega (arith, size_is fillable, fillable.short))
+    (fillable.rows, omega (arith, fillable.few_rows), omega (arith, size_is fillable, fillable.short))
 
 pub fill_cells-requires : goal.fill_cells-requires
 fill_cells-requires c =
     let fillable = c.requires in
     record {
-      rimmed = (rimmed fillable, c.gather-found.ensures.0, c.gather-found.ensures.1);
-      kinds_len = (search rules, search rules, search rules, search rules);
-      min_ring_le_m = (omega (arith, size_is fillable, fillable.long), omega (arith, size_is fillable, fillable.short));
+      rimmed = rimmed fillable;
+      whole = record { all_nums = search rules; all_dens = search rules; all_kinds = search rules; all_apexes = search rules };
+      ring_size = (omega (arith, size_is fillable, fillable.long), omega (arith, size_is fillable, fillable.short));
     }
 
 pub overflow_sub-m : goal.overflow_sub-m
@@ -39,17 +39,12 @@ cell_at-requires c =
     let fillable = c.requires in
     (omega arith, omega (arith, size_is fillable, fillable.long), omega (arith, size_is fillable, fillable.short))
 
-pub store-requires : goal.store-requires
-store-requires c =
-    let all = c.fill_cells.ensures.kinds_len_2 in
-    (all.0, all.1, all.2, all.3, c.cell_at.ensures.1)
-
 pub returns-then-uses_across : goal.returns-then-uses_across
 returns-then-uses_across c =
     let fillable = c.requires in
     let a = c.args in
     let site = site_in a.coordinates.now a.count a.table.now a.n a.a a.b in
-    let found = c.gather-found.ensures.2 in
+    let found = c.gather.ensures in
     let bytes : (j : ℕ) → get_or a.table.now j 0 < 256 = λ j. omega (arith, c.type_inv.table j) in
     let done = c.fill_cells.ensures.done site (site_rim fillable found bytes) (size_is fillable) in
     let bars : c.uses_across.result ≡ barred site = c.uses_across.ensures ∙ barred_found fillable found bytes in
@@ -61,7 +56,7 @@ returns-else-uses_across c =
     let fillable = c.requires in
     let a = c.args in
     let site = site_in a.coordinates.now a.count a.table.now a.n a.a a.b in
-    let found = c.gather-found.ensures.2 in
+    let found = c.gather.ensures in
     let bytes : (j : ℕ) → get_or a.table.now j 0 < 256 = λ j. omega (arith, c.type_inv.table j) in
     let done = c.fill_cells.ensures.done site (site_rim fillable found bytes) (size_is fillable) in
     let bars : c.uses_across.result ≡ barred site = c.uses_across.ensures ∙ barred_found fillable found bytes in

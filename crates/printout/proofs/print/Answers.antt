@@ -1,7 +1,8 @@
 -- `print` leaves on a wrong length and on a refusal; otherwise it reports.
 use mathlib.Core.Bool.{not}
-use mathlib.Core.Path.{refl, ap}
+use mathlib.Core.Path.{refl, sym, ap, ◌∙◌}
 use native.Mathlib.Omega.{arith}
+use Rattle.answers.specs.Answers.{number_of}
 use Rattle.printout.proofs.WaysOutOfPrint.{right_size, wrong_size, wrong_length, refusal, report_asks, reported}
 use Rattle.printout.proofs.print.Goals as goal
 
@@ -36,27 +37,22 @@ slice_bounds-block-end c =
 pub slice_bounds-remove-end : goal.slice_bounds-remove-end
 slice_bounds-remove-end c = refl
 
-pub returns-in_default : goal.returns-in_default
-returns-in_default c =
-    let input = c.args.input.now in
-    let size = right_size input c.right_length.ensures (ap not c.if-not-right_length.false) in
-    let both =
-    refusal input size _ c.remove-removed.ensures.gives c.in_default.is
-    c.number.ensures c.answered-in_default.ensures in
-    record { text = both.0; fits = both.1 }
-
 pub removed-requires : goal.removed-requires
 removed-requires c =
     let input = c.args.input.now in
     let size = right_size input c.right_length.ensures (ap not c.if-not-right_length.false) in
-    let done = c.in-Done.is in
-    report_asks input size _ c.remove-removed.ensures.gives _ done _ c.remove-removed.ensures.bytes
+    report_asks input size _ c.in-Ok.ensures.gives _ c.remove-given.ensures.bytes
+
+pub returns-in_default : goal.returns-in_default
+returns-in_default c =
+    let input = c.args.input.now in
+    let size = right_size input c.right_length.ensures (ap not c.if-not-right_length.false) in
+    let both = refusal input size (sym c.in_default.is ∙ c.remove-given.ensures.gives) (c.number.ensures ∙ ap number_of c.in_default.is) c.answered-in_default.ensures in
+    record { text = both.0; fits = both.1 }
 
 pub returns : goal.returns
 returns c =
     let input = c.args.input.now in
     let size = right_size input c.right_length.ensures (ap not c.if-not-right_length.false) in
-    let done = c.in-Done.is in
-    let both =
-    reported input size _ c.remove-removed.ensures.gives _ done _ c.remove-removed.ensures.bytes c.removed.ensures in
+    let both = reported input size _ c.in-Ok.ensures.gives _ c.remove-given.ensures.bytes c.removed.ensures in
     record { text = both.0; fits = both.1 }

@@ -1,86 +1,60 @@
--- A refusal, of the blocks or of the attempt, keeps the output; with answer 0 the block is begun, the rows are written in their place, and
--- it is finished.
-use mathlib.Core.Path.{◌≡◌, ◌∙◌}
+-- A refusal, of the blocks or of the attempt, keeps the output; with answer 0 the rows are written in their place, and the block is finished.
+use mathlib.Core.Path.{sym, ◌∙◌}
 use native.Mathlib.Omega.{arith}
-use borrow.Author.Rules.{rules}
-use lib.ListN.{length}
+use Rattle.std.proofs.lemmas.Result.{err_from_is_err_and}
 use Rattle.layout.proofs.BytesOfSlices.{all_bytes}
-use Rattle.output.proofs.BlockAfterwards.{begun_version, begun_length}
-use Rattle.cells.specs.Steps.{cells}
 use Rattle.calls.proofs.CallTests.{opened}
 use Rattle.outcome.proofs.RowsAfterwards.{few_afterwards}
-use Rattle.removal.proofs.RemovalAnswers.{refusal_gives, refusal_keeps, front_number, tried_number, replaceable, done_gives}
+use Rattle.removal.proofs.RemovalAnswers.{refusal_gives, refusal_keeps, front_refuses, attempt_refuses, done_gives}
 use Rattle.removal.proofs.RemovalWritten.{done_bytes}
 use Rattle.removal.proofs.remove.Goals as goal
 
-pub returns-in-Refused : goal.returns-in-Refused
-returns-in-Refused c =
+pub returns-in_err-blocks_answer : goal.returns-in_err-blocks_answer
+returns-in_err-blocks_answer c =
     let args = c.args in
-    let number = front_number args.block.now args.out.now args.e args.f _ c.blocks_answer-opened.ensures _
-    c.in-Refused.is in
+    let p = err_from_is_err_and c.from_residual.result c.from_residual.ensures.1 in
+    let refused = front_refuses args.block.now args.out.now args.e args.f (sym c.blocks_answer.ensures ∙ c.in_err-blocks_answer.was) in
     record {
-      gives =
-          c.refused.ensures ∙ refusal_gives args.block.now args.out.now args.e args.f _ number;
-      bytes =
-          refusal_keeps args.block.now args.out.now args.e args.f _ number;
+      gives = rw (p.1, p.2) (refusal_gives args.block.now args.out.now args.e args.f refused);
+      bytes = refusal_keeps args.block.now args.out.now args.e args.f refused;
     }
 
-pub attempt-tried-requires : goal.attempt-tried-requires
-attempt-tried-requires c =
-    let right = opened c.args.block.now c.args.out.now _ c.blocks_answer-opened.ensures c.in_default.is in
-    right.0
+pub attempt-requires : goal.attempt-requires
+attempt-requires c = (opened c.args.block.now c.args.out.now (sym c.blocks_answer.ensures ∙ c.in_ok-blocks_answer.was)).0
 
-pub returns-in-Refused-answer : goal.returns-in-Refused-answer
-returns-in-Refused-answer c =
+pub returns-in_err-tried : goal.returns-in_err-tried
+returns-in_err-tried c =
     let args = c.args in
-    let right = opened args.block.now args.out.now _ c.blocks_answer-opened.ensures c.in_default.is in
-    let number = tried_number args.block.now args.out.now args.e args.f right.0 right.1 _ c.attempt-tried.ensures _
-    c.in-Refused-answer.is in
+    let (opens, size) = opened args.block.now args.out.now (sym c.blocks_answer.ensures ∙ c.in_ok-blocks_answer.was) in
+    let p = err_from_is_err_and c.from_residual-in_err-tried.result c.from_residual-in_err-tried.ensures.1 in
+    let refused = attempt_refuses args.block.now args.out.now args.e args.f opens size c.in_err-tried.ensures in
     record {
-      gives =
-          c.refused-in-Refused-answer.ensures ∙ refusal_gives args.block.now args.out.now args.e args.f _ number;
-      bytes =
-          refusal_keeps args.block.now args.out.now args.e args.f _ number;
+      gives = rw (p.1, p.2) (refusal_gives args.block.now args.out.now args.e args.f refused);
+      bytes = refusal_keeps args.block.now args.out.now args.e args.f refused;
     }
 
-pub begin-requires : goal.begin-requires
-begin-requires c =
-    let right = opened c.args.block.now c.args.out.now _ c.blocks_answer-opened.ensures c.in_default.is in
-    right
-
-pub replace-after-requires : goal.replace-after-requires
-replace-after-requires c =
-    let args = c.args in
-    let right = opened args.block.now args.out.now _ c.blocks_answer-opened.ensures c.in_default.is in
-    let size = begun_length args.block.now right.0 args.out.now _ right.1 c.begin.ensures in
-    let whole : length c.attempt-tried.result.apexes ≡ cells = search rules in
-    record {
-      block_value = (
-        right.0,
-        replaceable args.block.now args.out.now args.e args.f right.0 right.1 _ c.attempt-tried.ensures
-            c.in_default-answer.is,
-      );
-      apexes_len = (whole, omega arith, begun_version args.block.now right.0 args.out.now _ right.1 c.begin.ensures);
-    }
+pub carry_through-after-requires : goal.carry_through-after-requires
+carry_through-after-requires c = record {
+  block_value = opened c.args.block.now c.args.out.now (sym c.blocks_answer.ensures ∙ c.in_ok-blocks_answer.was);
+  replaceable = c.in_ok-tried.ensures.1;
+}
 
 pub finish-requires : goal.finish-requires
 finish-requires c =
     let args = c.args in
-    let right = opened args.block.now args.out.now _ c.blocks_answer-opened.ensures c.in_default.is in
-    let given = replaceable args.block.now args.out.now args.e args.f right.0 right.1 _ c.attempt-tried.ensures
-    c.in_default-answer.is in
-    (omega (arith, c.out-2-1.given, c.out-1.given, right.1), omega (arith, c.replace-after.ensures.number, few_afterwards args.block.now args.e args.f given))
+    let (opens, size) = opened args.block.now args.out.now (sym c.blocks_answer.ensures ∙ c.in_ok-blocks_answer.was) in (
+      omega (arith, c.carry_through-after.auto.out),
+      omega (arith, c.carry_through-after.ensures.number, few_afterwards args.block.now args.e args.f c.in_ok-tried.ensures.1),
+    )
 
 pub returns : goal.returns
 returns c =
     let args = c.args in
-    let right = opened args.block.now args.out.now _ c.blocks_answer-opened.ensures c.in_default.is in
+    let (opens, size) = opened args.block.now args.out.now (sym c.blocks_answer.ensures ∙ c.in_ok-blocks_answer.was) in
     record {
       gives =
-          done_gives args.block.now args.out.now args.e args.f right.0 right.1 _ c.attempt-tried.ensures
-          c.in_default-answer.is _ _ _ c.replace-after.ensures;
+          done_gives args.block.now args.out.now args.e args.f opens size _ c.in_ok-tried.ensures _ _ _ c.carry_through-after.ensures;
       bytes =
-          done_bytes args.block.now args.out.now args.e args.f right.0 right.1 _ c.attempt-tried.ensures
-          c.in_default-answer.is _ _ _ c.replace-after.ensures
-          (all_bytes args.block.now c.type_inv.block) c.begin.ensures _ c.finish.ensures;
+          done_bytes args.block.now args.out.now args.e args.f opens size _ c.in_ok-tried.ensures _ _ c.carry_through-after.ensures
+          (all_bytes args.block.now c.type_inv.block) _ c.finish.ensures;
     }

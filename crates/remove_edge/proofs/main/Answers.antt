@@ -1,11 +1,13 @@
 -- What `print` answers is lent to the write: a text has room for its whole printout.
 use Rattle.std.proofs.Common.{sym}
 use Rattle.std.proofs.Math.Seq.{length-take-le}
+use Rattle.text.specs.Texts.{text_of}
 use Rattle.text.proofs.BytesBehindAText.{text_lends}
 use Rattle.remove_edge.proofs.main.Goals as goal
 
-pub slice_bounds-bytes-end : goal.slice_bounds-bytes-end
-slice_bounds-bytes-end c = text_lends _ c.print-text.ensures.text c.print-text.ensures.fits
+pub shared_ref_as_front-write_all : goal.shared_ref_as_front-write_all
+unfolding text_of
+shared_ref_as_front-write_all c = rw c.print-text.ensures.text c.print-text.ensures.fits
 
 pub slice_bounds-write_all-end : goal.slice_bounds-write_all-end
 slice_bounds-write_all-end c =

@@ -6,8 +6,8 @@ use Rattle.replacement.proofs.carry_out.Goals as goal
 pub keep_others-kept-requires : goal.keep_others-kept-requires
 keep_others-kept-requires c =
     let args = c.args in
-    let (held, room) = keep_room args.coordinates.now args.count args.table.now args.n args.a args.b c.requires.ringed
-    c.requires.carriable in
+    let (held, room) = keep_room args.edge.now
+    c.requires in
     (omega (arith, held), omega (arith, room))
 
 pub expand-end-requires : goal.expand-end-requires
@@ -15,25 +15,25 @@ expand-end-requires c =
     let args = c.args in
     record {
       apexes_len =
-          expand_ready args.coordinates.now args.count args.table.now args.n args.a args.b c.requires.ringed c.requires.carriable _
+          expand_ready args.edge.now c.requires _
           c.keep_others-kept.ensures.0 _ c.keep_others-kept.ensures.1;
       i_in_bounds =
-          expand_room args.coordinates.now args.count args.table.now args.n args.a args.b c.requires.ringed c.requires.carriable _
+          expand_room args.edge.now c.requires _
           c.keep_others-kept.ensures.0 _ c.keep_others-kept.ensures.1;
     }
 
 pub dress-requires : goal.dress-requires
 dress-requires c =
     let args = c.args in
-    let (from, room) = dress_room args.coordinates.now args.count args.table.now args.n args.a args.b c.requires.ringed
-    c.requires.carriable _ c.keep_others-kept.ensures.0 _ c.keep_others-kept.ensures.1 _ _ c.expand-end.ensures.1 in
+    let (from, room) = dress_room args.edge.now
+    c.requires _ c.keep_others-kept.ensures.0 _ c.keep_others-kept.ensures.1 _ _ c.expand-end.ensures.1 in
     record {
-      n_in_bounds = (c.requires.ringed.ready.rows, omega (arith, c.requires.ringed.ready.few_rows), c.requires.ringed.agrees);
+      n_in_bounds = (args.edge.now.ringed.ready.rows, omega (arith, args.edge.now.ringed.ready.few_rows), args.edge.now.ringed.agrees);
       from_le_end = (from, room);
     }
 
 pub returns : goal.returns
 returns c =
     let args = c.args in
-    carried_out args.coordinates.now args.count args.table.now args.n args.a args.b c.requires.ringed c.requires.carriable _
+    carried_out args.edge.now c.requires _
     c.keep_others-kept.ensures.0 _ c.keep_others-kept.ensures.1 _ _ c.expand-end.ensures.1 _ c.dress.ensures

@@ -5,12 +5,6 @@ use Rattle.lines.specs.Lines.{answer_line}
 use Rattle.lines.proofs.LineLengths.{answer_size}
 use Rattle.report.proofs.answered.Goals as goal
 
-pub no_text-requires : goal.no_text-requires
-no_text-requires c = tt
-
-pub put_answer-requires : goal.put_answer-requires
-put_answer-requires c = tt
-
 pub returns : goal.returns
 returns c =
     let answer = c.args.answer in

@@ -44,7 +44,7 @@ pub returns-then-links-eq0 : goal.returns-then-links-eq0
 returns-then-links-eq0 c =
     let got = c.gather-round in
     let g = gathered c.requires got.result.links got.result.regions got.ensures.1 got.ensures.3 in
-    c.refused.ensures ∙ gives_10 g c.args.chains c.if-links-eq0.true
+    gives_10 g c.args.chains c.if-links-eq0.true
 
 pub walk-trail-requires : goal.walk-trail-requires
 walk-trail-requires c =
@@ -63,7 +63,7 @@ returns-then-trail-links c =
     let g = gathered c.requires got.result.links got.result.regions got.ensures.1 got.ensures.3 in
     let went = c.walk-trail in
     let w = gone g c.if-links-eq0.false c.first_point.result c.first_point.ensures went.result went.ensures.0 went.ensures.1 went.ensures.2 in
-    c.refused-then-trail-links.ensures ∙ gives_12 w c.if-trail.true _ c.if-trail-links.true
+    gives_12 w c.if-trail.true _ c.if-trail-links.true
 
 pub returns-then-trail : goal.returns-then-trail
 returns-then-trail c =
@@ -79,7 +79,7 @@ returns-then-not-chains c =
     let g = gathered c.requires got.result.links got.result.regions got.ensures.1 got.ensures.3 in
     let went = c.walk-trail in
     let w = gone g c.if-links-eq0.false c.first_point.result c.first_point.ensures went.result went.ensures.0 went.ensures.1 went.ensures.2 in
-    c.refused-then-not-chains.ensures ∙ gives_alone w c.if-trail.false (c.if-not-chains.true)
+    gives_alone w c.if-trail.false (c.if-not-chains.true)
 
 pub returns-then-trail-links-2 : goal.returns-then-trail-links-2
 returns-then-trail-links-2 c =
@@ -87,8 +87,7 @@ returns-then-trail-links-2 c =
     let g = gathered c.requires got.result.links got.result.regions got.ensures.1 got.ensures.3 in
     let went = c.walk-trail in
     let w = gone g c.if-links-eq0.false c.first_point.result c.first_point.ensures went.result went.ensures.0 went.ensures.1 went.ensures.2 in
-    c.refused-then-trail-links-2.ensures
-    ∙ gives_broken w c.if-trail.false
+    gives_broken w c.if-trail.false
     (c.if-not-chains.false) c.if-trail-links-2.true
 
 pub returns : goal.returns

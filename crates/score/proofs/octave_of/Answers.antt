@@ -1,7 +1,7 @@
 -- `score::octave_of` is `octave_of`: `half` is the total halved once more than `exponent` says, and n of it are left exactly
 -- where the next exponent is reached.
 use Prim.Native.Nat.{ℕ, suc, ◌+◌, ◌*◌, ◌/◌, ◌^◌, ◌≤◌, ◌<◌}
-use mathlib.Core.Path.{◌≡◌, refl}
+use mathlib.Core.Path.{◌≡◌}
 use native.Mathlib.Nat.{pow-suc, one-le-pow, le_antisymm, div-div-eq-div-mul, div-lt_iff_lt-mul, le-div_iff_mul-le}
 use native.Mathlib.Numerals.{add-one}
 use native.Mathlib.Omega.{arith}
@@ -18,9 +18,6 @@ module _ (n total e half : ℕ) (is : half ≡ total / 2 ^ suc e) where
   halved : half / 2 ≡ total / 2 ^ suc (e + 1)
   halved = rw (add-one, pow-suc 2 (suc e), is) (div-div-eq-div-mul total (2 ^ suc e) 2)
 
-pub loop-exponent-init : goal.loop-exponent-init
-loop-exponent-init c = (refl, omega arith, omega arith)
-
 pub returns-then-half-n : goal.returns-then-half-n
 returns-then-half-n c =
     let a = c.args in
@@ -35,7 +32,7 @@ loop-exponent-preserved c =
     let half = c.loop-exponent.half in
     let is = c.loop-exponent.invariant.0 in
     let next = octave_largest a.n a.total (suc e) (omega arith) (reached a.n a.total e half is c.if-half-n.false) in
-    (halved a.n a.total e half is, omega arith, omega arith)
+    (halved a.n a.total e half is, omega arith)
 
 pub returns : goal.returns
 returns c = let a = c.args in omega (arith, octave_within a.n a.total)

@@ -1,11 +1,7 @@
-use Prim.Native.Nat.{suc, ◌-◌, ◌/◌, ◌^◌, ◌≤◌}
+use Prim.Native.Nat.{suc, ◌/◌, ◌^◌, ◌≤◌}
 use mathlib.Core.Path.{◌≡◌}
-use Rattle.score.specs.Score.{octave_limit, octave_of}
+use Rattle.score.specs.Score.{octave_of}
 use Rattle.score.proofs.octave_of.Given as goal
 
 abbrev pub invariant-loop-exponent : goal.invariant-loop-exponent
-invariant-loop-exponent l =
-    (l.half ≡ l.total / 2 ^ suc l.exponent) × (l.exponent ≤ octave_of l.n l.total) × (l.exponent ≤ octave_limit)
-
-abbrev pub decreases-loop-exponent : goal.decreases-loop-exponent
-decreases-loop-exponent l = octave_limit - l.exponent
+invariant-loop-exponent l = (l.half ≡ l.total / 2 ^ suc l.exponent) × (l.exponent ≤ octave_of l.n l.total)

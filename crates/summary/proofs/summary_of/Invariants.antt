@@ -1,4 +1,4 @@
-use Prim.Native.Nat.{◌≤◌, ◌-◌}
+use Prim.Native.Nat.{◌≤◌}
 use mathlib.Core.List.{map}
 use mathlib.Core.Path.{◌≡◌}
 use Rattle.volume.specs.Volume.{points_in}
@@ -9,7 +9,5 @@ use Rattle.summary.proofs.summary_of.Given as goal
 
 abbrev pub invariant-loop-i : goal.invariant-loop-i
 invariant-loop-i l =
-    (l.i ≤ l.n) × (l.tally ≡ tally_of (map (row_quality (points_in l.coordinates l.count)) (rows_in l.table l.i)))
-
-abbrev pub decreases-loop-i : goal.decreases-loop-i
-decreases-loop-i l = l.n - l.i
+    (l.i ≤ l.rows.n)
+    × (l.tally ≡ tally_of (map (row_quality (points_in l.rows.coordinates.now l.rows.count)) (rows_in l.rows.table.now l.i)))

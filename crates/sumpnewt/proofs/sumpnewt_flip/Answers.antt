@@ -4,4 +4,4 @@ use Rattle.sumpnewt.proofs.sumpnewt_flip.Goals as goal
 
 pub returns : goal.returns
 returns c =
-    record { answer = handed _ _ _ c.number.ensures c.flip-answer.ensures.answer; bytes = c.flip-answer.ensures.bytes }
+    record { answer = handed _ tt c.number.ensures c.flip.ensures.answer; bytes = c.flip.ensures.bytes }

@@ -4,4 +4,4 @@ use Rattle.sumpnewt.proofs.sumpnewt_seal.Goals as goal
 
 pub returns : goal.returns
 returns c =
-    record { answer = handed _ _ _ c.number.ensures c.seal-answer.ensures.answer; bytes = c.seal-answer.ensures.bytes }
+    record { answer = handed _ tt c.number.ensures c.seal.ensures.answer; bytes = c.seal.ensures.bytes }

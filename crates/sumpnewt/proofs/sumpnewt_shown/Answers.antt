@@ -4,4 +4,4 @@ use Rattle.sumpnewt.proofs.sumpnewt_shown.Goals as goal
 
 pub returns : goal.returns
 returns c =
-    record { answer = handed _ _ _ c.number.ensures c.shown-answer.ensures.answer; elements = c.shown-answer.ensures.elements }
+    record { answer = handed _ tt c.number.ensures c.shown.ensures.answer; elements = c.shown.ensures.elements }

@@ -1,9 +1,8 @@
--- `row_quality` is `row_quality`: each number of the row is read as its point.
+-- `row_quality` is `row_quality`, the quality of the corners.
 use mathlib.Core.Path.{◌∙◌}
-use Rattle.tally.proofs.MeasuredRows.{row_quality_from}
+use Rattle.rows.specs.RowMeasure.{row_quality}
 use Rattle.tally.proofs.row_quality.Goals as goal
 
 pub returns : goal.returns
-returns c =
-    c.of.ensures
-    ∙ row_quality_from c.requires c.point_in-p.ensures c.point_in-q.ensures c.point_in-r.ensures c.point_in-s.ensures
+unfolding row_quality
+returns c = c.of.ensures ∙ rw c.corners_of.ensures

@@ -1,11 +1,7 @@
-use Prim.Native.Nat.{◌≤◌, ◌-◌}
-use mathlib.Core.Path.{◌≡◌}
-use lib.ListN.{length, take}
+use lib.ListN.{take}
 use Rattle.text.specs.Steps.{Behind}
 use Rattle.text.proofs.put_word.Given as goal
 
-abbrev pub invariant-loop-i : goal.invariant-loop-i
-invariant-loop-i l = (l.i ≤ length l.word) × (l.i-end ≡ length l.word) × Behind l.initial.longer (take l.i l.word) l.longer
-
-abbrev pub decreases-loop-i : goal.decreases-loop-i
-decreases-loop-i l = length l.word - l.i
+-- the bytes so far stand behind the text
+abbrev pub invariant-loop-byte : goal.invariant-loop-byte
+invariant-loop-byte l = Behind l.initial.longer (take l.byte-index l.word) l.longer

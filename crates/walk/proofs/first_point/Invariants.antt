@@ -1,14 +1,9 @@
-use Prim.Native.Nat.{ℕ, ◌≤◌, ◌<◌, ◌-◌}
+-- The starts that are passed are entered.
+use Rattle.std.proofs.Common.{ℕ, ◌<◌, get_or}
 use mathlib.Core.List.{Memᴰ}
-use mathlib.Core.Path.{◌≡◌}
-use lib.ListN.{get_or}
 use Rattle.links.specs.Links.{ends}
 use Rattle.links.specs.Steps.{links_in}
 use Rattle.walk.proofs.first_point.Given as goal
 
-abbrev pub invariant-loop-i : goal.invariant-loop-i
-invariant-loop-i l =
-    (l.i ≤ l.i-end) × (l.i-end ≡ l.links.n) × ((k : ℕ) → k < l.i → Memᴰ (get_or l.links.starts k 0) (ends (links_in l.links)))
-
-abbrev pub decreases-loop-i : goal.decreases-loop-i
-decreases-loop-i l = l.i-end - l.i
+abbrev pub invariant-loop-v : goal.invariant-loop-v
+invariant-loop-v l = (k : ℕ) → k < l.v-index → Memᴰ (get_or l.v-items k 0) (ends (links_in l.fn.links))

@@ -6,7 +6,7 @@ use lib.Signed.{lt_z}
 use mir.Syntax.{w64}
 use mir.Val.{SFits, to_z, of_z}
 use mir.Facts.{to_z-of_z}
-use Rattle.quality.proofs.QualityComputed.{flat_is, inverted_is, upright_is, num_fits, square_den_fits, cube_den_fits}
+use Rattle.quality.proofs.QualityComputed.{flat_is, inverted_is, upright_is}
 use Rattle.quality.proofs.Quality.measured.Goals as goal
 
 -- what `square` says, of D itself
@@ -15,16 +15,6 @@ size_of fits e = e ∙ ap (λ z. nat_abs z ^ 2) (to_z-of_z fits)
 
 pub returns-then-d-eq0 : goal.returns-then-d-eq0
 returns-then-d-eq0 c = flat_is c.args.d c.args.s c.ranges.d c.if-d-eq0.true
-
-pub overflow_mul-num : goal.overflow_mul-num
-overflow_mul-num c =
-    num_fits c.args.d c.square-num.result (size_of c.ranges.d c.square-num.ensures) c.requires.0
-
-pub overflow_mul-den : goal.overflow_mul-den
-overflow_mul-den c = square_den_fits c.args.s c.requires.1
-
-pub overflow_mul-den-2 : goal.overflow_mul-den-2
-overflow_mul-den-2 c = cube_den_fits c.args.s c.requires.1
 
 pub returns-then-d-lt0 : goal.returns-then-d-lt0
 returns-then-d-lt0 c =

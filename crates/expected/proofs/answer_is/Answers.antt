@@ -1,8 +1,0 @@
--- By the case of the answer.
-use Rattle.expected.proofs.answer_is.Goals as goal
-
-pub returns-in-Done : goal.returns-in-Done
-returns-in-Done c = rw c.in-Done.is
-
-pub returns-in-Refused : goal.returns-in-Refused
-returns-in-Refused c = rw c.in-Refused.is
