@@ -104,6 +104,15 @@ fn the_headers_numbers_are_the_models() {
     assert_eq!(printed(program, &[]), expected.concat());
 }
 
+#[cfg(kernel)]
+#[test]
+fn it_needs_nothing_but_memcpy_and_memset() {
+    let listed = printed("nm", &["-u", ARCHIVE].map(OsStr::new));
+    let needed = listed.lines().filter_map(|line| line.trim().strip_prefix("U "));
+    let others: Vec<&str> = needed.filter(|name| !["memcpy", "memset"].contains(name)).collect();
+    assert!(others.is_empty(), "{others:?}");
+}
+
 /// What the C program prints: how many calls of each kind it made, all of which did as the header says.
 #[cfg(kernel)]
 const CALLS_MADE: &str = "\

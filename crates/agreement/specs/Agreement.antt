@@ -2,7 +2,6 @@
 use Rattle.std.specs.Prelude.{ℕ, Bool, false, cond, ◌&&◌, ◌-◌, List, [], eqb, replicate, Result, Ok, Err}
 use Rattle.std.specs.Result.{result_unwrap_or}
 use Rattle.answers.specs.declared.Refusal.{Refusal}
-use Rattle.page.specs.declared.PageRow.{PageRow}
 use Rattle.rows.specs.Rows.{rows_at}
 use Rattle.layout.specs.declared.Fields.{Fields}
 use Rattle.layout.specs.Layout.{points_at, body_bytes}
@@ -11,7 +10,7 @@ use Rattle.ring.specs.declared.Ring.{Ring}
 use Rattle.ring.specs.Ring.{ring_with}
 use Rattle.calls.specs.declared.Removed.{Removed}
 use Rattle.calls.specs.Summarising.{summary_gives}
-use Rattle.calls.specs.Removing.{remove_gives, remove_bytes}
+use Rattle.calls.specs.Removing.{remove_gives, remove_bytes, page_given}
 use Rattle.calls.specs.Flipping.{flip_answer, flip_bytes}
 use Rattle.records.specs.Records.{call_in, input_in, output_before, answer_in, number_in, numbers_in}
 use Rattle.expected.specs.Expected.{ring_is, fields_are, output_is}
@@ -29,12 +28,7 @@ no_fields = record {
   table = replicate (body_bytes - rows_at) 0;
 }
 
--- the page row of a removal, or its refusal
-abbrev pub page_given : Result Removed Refusal → Result PageRow Refusal
-page_given (Ok removed) = Ok removed.page
-page_given (Err refusal) = Err refusal
-
--- its ring or chain; beside a refusal it has no points
+-- the ring or chain of a removal; beside a refusal it has no points
 abbrev pub ring_given : Result Removed Refusal → Ring
 ring_given (Ok removed) = removed.ring
 ring_given (Err refusal) = ring_with []

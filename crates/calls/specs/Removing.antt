@@ -1,6 +1,6 @@
 -- Requirement §9 of a removal: from all inputs to its answer, every byte of the output,
 -- page row and ring.
-use Rattle.std.specs.Prelude.{ℕ, ◌-◌, Bool, not, ◌||◌, List, [], ◌∷◌, ◌++◌, map, ◌≡◌, ltb, Result}
+use Rattle.std.specs.Prelude.{ℕ, ◌-◌, Bool, not, ◌||◌, List, [], ◌∷◌, ◌++◌, map, ◌≡◌, ltb, Result, Ok, Err}
 use Rattle.std.proofs.Math.Option.{get_or}
 use Rattle.lists.specs.Lists.{every, any}
 use Rattle.quality.specs.declared.Quality.{Quality}
@@ -96,9 +96,10 @@ remove_gives block out e f =
     let site = site_of (fields_of block) e f in
     gives (remove_answer block out e f) (record { page = page_afterwards block e f; ring = ring_with site.ring })
 
--- the page row alone
-unfoldable pub page_gives : List ℕ → List ℕ → ℕ → ℕ → Result PageRow Refusal
-page_gives block out e f = gives (remove_answer block out e f) (page_afterwards block e f)
+-- the page row of what a removal gives, or its refusal
+abbrev pub page_given : Result Removed Refusal → Result PageRow Refusal
+page_given (Ok removed) = Ok removed.page
+page_given (Err refusal) = Err refusal
 
 -- ---- a premise of most laws
 

@@ -12,7 +12,7 @@ const CALLS: usize = 5;
 // 0 to 23.
 pub const ANSWERS: usize = 24;
 
-const CELLS: usize = CALLS * ANSWERS;
+pub const CELLS: usize = CALLS * ANSWERS;
 
 // How many cases there are, and how many of them agree.
 #[derive(Clone, Copy)]

@@ -30,9 +30,14 @@ use Rattle.triangulation.specs.Steps.{site_in}
 use Rattle.calls.specs.Removing.{Sound}
 use Rattle.calls.proofs.CallTests.{taken}
 use Rattle.calls.proofs.SoundEdges.{ends_fit, sound_site, ring_point}
-use Rattle.edge.specs.Steps.{edge_answer, edge_found, Ringed}
+use Rattle.edge.specs.Steps.{edge_answer, edge_found, Ringed, RingedFact}
 use Rattle.edge.specs.declared.RingedEdge.{RingedEdge}
 use Rattle.edge.specs.Edges.{site_of_edge, IsEdgeOf}
+
+-- what a `RingedEdge` keeps of its ring or chain
+pub fact_of : {coordinates : List ℕ} {count : ℕ} {table : List ℕ} {n a b : ℕ} {closed : Bool} {ring : Ring}
+    → Ringed coordinates count table n a b closed ring → RingedFact coordinates count table n a b closed ring
+fact_of given = record { ready = given.ready; measured = given.measured; sound = ∣ given.sound ∣₁; agrees = given.agrees }
 
 -- what is given with answer 0
 given_is : {A : Type 0} (n : ℕ) (x : A) {y : A} → gives n x ≡ Ok y → y ≡ x
@@ -124,7 +129,7 @@ module _ (chains : Bool) (block : List ℕ) (e f : ℕ) (opens : open_answer blo
       ringed = record {
         ready = ready;
         measured = opens_measured block opens;
-        sound = ∣ subst SoundRing (sym own_site) (sound_site block e f edge_sound) ∣₁;
+        sound = subst SoundRing (sym own_site) (sound_site block e f edge_sound);
         agrees = marks_agree block opens;
       }
 

@@ -28,5 +28,12 @@ edge_found chains block e f = found_with (edge_answer chains block e f) (site_of
 pub record Ringed (coordinates : List ℕ) (count : ℕ) (table : List ℕ) (n a b : ℕ) (closed : Bool) (ring : Ring) : Type 0 where
   pub ready : Fillable coordinates count table n a b closed ring
   pub measured : Measured coordinates count table n
+  pub sound : SoundRing (site_in coordinates count table n a b)
+  pub agrees : T (agree (rows_in table n))
+
+-- What a `RingedEdge` keeps of that: the same, `sound` truncated, since the fact of a ghost field is a proposition.
+pub record RingedFact (coordinates : List ℕ) (count : ℕ) (table : List ℕ) (n a b : ℕ) (closed : Bool) (ring : Ring) : Type 0 where
+  pub ready : Fillable coordinates count table n a b closed ring
+  pub measured : Measured coordinates count table n
   pub sound : ∥ SoundRing (site_in coordinates count table n a b) ∥₁
   pub agrees : T (agree (rows_in table n))

@@ -6,7 +6,7 @@ ghost use Rattle.answers.specs.Answers.{first_refusal, answer_of};
 ghost use Rattle.layout.specs.Layout.{point_count, row_count, coordinates_of};
 ghost use Rattle.block.specs.Opening.{open_answer};
 ghost use Rattle.calls.specs.Removing.{block_tests};
-ghost use Rattle.edge.specs.Steps.{edge_found, Ringed};
+ghost use Rattle.edge.specs.Steps.{edge_found, RingedFact};
 
 use answers::Refusal;
 use layout::{BLOCK_BYTES, POINTS_AT};
@@ -24,7 +24,7 @@ pub struct RingedEdge<'a> {
     pub b: u8,
     pub closed: bool,
     pub ring: Ring,
-    ghost ringed: { Ringed coordinates.now count table.now n a b closed ring },
+    ghost ringed: { RingedFact coordinates.now count table.now n a b closed ring },
 }
 
 impl<'a> RingedEdge<'a> {
@@ -34,7 +34,7 @@ impl<'a> RingedEdge<'a> {
     pub fn in_block(block: &'a [u8], e: usize, f: usize, closed: bool, ring: Ring) -> RingedEdge<'a>
         requires opens { open_answer block.now ≡ 0 }
         requires ends { (e < 256) × (f < 256) }
-        requires ringed { Ringed (coordinates_of block.now) (point_count block.now) block.now (row_count block.now) (min e f) (max e f) closed ring }
+        requires ringed { RingedFact (coordinates_of block.now) (point_count block.now) block.now (row_count block.now) (min e f) (max e f) closed ring }
         ensures { IsEdgeOf block.now e f closed ring result }
     {
         RingedEdge {

@@ -57,7 +57,7 @@ fn apex_over(row: Row, x: u8, y: u8, z: u8) -> u8
 // How many they are, the smaller apex and the other, the row of the smaller, and their regions.
 #[derive(Clone, Copy)]
 pub struct Sharing {
-    pub n: u8,
+    pub n: usize,
     pub a: u8,
     pub b: u8,
     pub row: Row,

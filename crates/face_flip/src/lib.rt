@@ -14,6 +14,7 @@ use layout::{BLOCK_BYTES, MAX_ROWS};
 use rows::Regions;
 
 // The flip of a face with right numbers: writes the block afterwards, or refuses and leaves every output byte.
+#[inline(never)]
 fn flip_right(block: &[u8], x: u8, y: u8, z: u8, out: &mut [u8]) -> Result<(), Refusal>
     requires { RightFace block.now out.old x y z }
     ensures answer { result ≡ answer_of (flip_answer block.now out.old (x ∷ y ∷ z ∷ [])) }

@@ -6,13 +6,11 @@ use native.Mathlib.Omega.{arith}
 use lib.IntN.{pos}
 use lib.ListN.{get_or, replicate, get_or-append}
 use Rattle.volume.specs.Volume.{points_in, same_z}
-use Rattle.rows.specs.declared.Row.{Row}
-use Rattle.rows.specs.Labels.{no_marks}
 use Rattle.rows.specs.RowMeasure.{row_d}
-use Rattle.tally.specs.Steps.{Placed}
 use Rattle.ring.specs.declared.Ring.{Ring}
 use Rattle.ring.specs.Ring.{Site, site_of, m, max_ring, flat, not_flat}
-use Rattle.edge.specs.Steps.{Ringed}
+use Rattle.flatness.specs.Steps.{across, Crossed}
+use Rattle.edge.specs.Steps.{RingedFact}
 use Rattle.edge.specs.declared.RingedEdge.{RingedEdge}
 use Rattle.edge.specs.Edges.{site_of_edge}
 
@@ -20,7 +18,7 @@ module _ (edge : RingedEdge) where
   abbrev its : Site
   its = site_of_edge edge
 
-  given : Ringed edge.coordinates.now edge.count edge.table.now edge.n edge.a edge.b edge.closed edge.ring
+  given : RingedFact edge.coordinates.now edge.count edge.table.now edge.n edge.a edge.b edge.closed edge.ring
   given = edge.ringed
 
   three : 3 ≤ m its
@@ -28,20 +26,6 @@ module _ (edge : RingedEdge) where
 
   ring_size : edge.ring.m ≡ m its
   ring_size = ap (λ (r : Ring). r.m) given.ready.found
-
-  pub last_point : (0 < edge.ring.m) × (edge.ring.m ≤ max_ring)
-  last_point = (omega (arith, ring_size, three), omega (arith, ring_size, given.ready.short))
-
-  -- the row: a, b, v1 and vm
-  abbrev across : Row
-  across = record {
-    p = edge.a;
-    q = edge.b;
-    r = get_or edge.ring.v 0 0;
-    s = get_or edge.ring.v (edge.ring.m - 1) 0;
-    region = 0;
-    marks = no_marks;
-  }
 
   at_place : (i : ℕ) → i < m its → get_or edge.ring.v i 0 ≡ get_or its.ring i 0
   at_place i h =
@@ -54,13 +38,18 @@ module _ (edge : RingedEdge) where
   last_place : get_or edge.ring.v (edge.ring.m - 1) 0 ≡ get_or its.ring (m its - 1) 0
   last_place = ap (λ k. get_or edge.ring.v (k - 1) 0) ring_size ∙ at_place (m its - 1) (omega (arith, three))
 
-  pub placed : Placed edge.coordinates.now edge.count across
-  placed = record {
-    points_held = given.ready.points;
-    below_p = omega (arith, given.ready.ordered, given.ready.below);
-    below_q = given.ready.below;
-    below_r = rw first_place (given.ready.ring_below 0 (omega (arith, three)));
-    below_s = rw last_place (given.ready.ring_below (m its - 1) (omega (arith, three)));
+  -- what is asked where the row is measured
+  pub crossed : Crossed edge.coordinates.now edge.count edge.a edge.b edge.ring
+  crossed = record {
+    some_point = omega (arith, ring_size, three);
+    short = omega (arith, ring_size, given.ready.short);
+    placed = record {
+      points_held = given.ready.points;
+      below_p = omega (arith, given.ready.ordered, given.ready.below);
+      below_q = given.ready.below;
+      below_r = rw first_place (given.ready.ring_below 0 (omega (arith, three)));
+      below_s = rw last_place (given.ready.ring_below (m its - 1) (omega (arith, three)));
+    };
   }
 
   own_a : its.a ≡ edge.a
@@ -76,6 +65,6 @@ module _ (edge : RingedEdge) where
   own_points = refl
 
   -- a closed ring passes, and an open chain does if D of that row is 0
-  pub flat_is : not (edge.closed || same_z (row_d (points_in edge.coordinates.now edge.count) across) (pos 0)) ≡ not_flat its
+  pub flat_is : not (edge.closed || same_z (row_d (points_in edge.coordinates.now edge.count) (across edge.a edge.b edge.ring)) (pos 0)) ≡ not_flat its
   unfolding flat row_d
   flat_is = rw (given.ready.is_closed, first_place, last_place, own_a, own_b, own_points)

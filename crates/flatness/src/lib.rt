@@ -1,23 +1,27 @@
 // Whether a chain is flat, how many rows go, and how many there are afterwards.
 #![tactic(auto)]
 
-ghost use Rattle.std.specs.Prelude.{◌+◌, ◌-◌, ◌*◌, ◌≤◌, ◌<◌, cond, ◌≡◌};
+ghost use Rattle.std.specs.Prelude.{◌+◌, ◌-◌, ◌*◌, ◌≤◌, ◌<◌, cond, not, ◌||◌, ◌≡◌, pos};
+ghost use Rattle.volume.specs.Volume.{points_in, same_z};
+ghost use Rattle.rows.specs.RowMeasure.{row_d};
 ghost use Rattle.rows.specs.Steps.{most_rows};
-ghost use Rattle.ring.specs.Ring.{max_ring, not_flat};
-ghost use Rattle.edge.specs.Edges.{site_of_edge};
+ghost use Rattle.ring.specs.Ring.{max_ring};
+ghost use Rattle.flatness.specs.Steps.{Crossed, across};
 
-use edge::RingedEdge;
+use ring::Ring;
 
 // The chain is not flat: it is open, and D(a,b,v1,vm) is not 0.
-pub fn not_flat(edge: &RingedEdge) -> bool
-    ensures { result ≡ not_flat (site_of_edge edge.now) }
+// Kept: its parameters one by one, since it asks for less than a RingedEdge (Crossed): no table, and a ring or chain of 1 to 10 points.
+pub fn not_flat(coordinates: &[u8], count: usize, a: u8, b: u8, closed: bool, ring: Ring) -> bool
+    requires { Crossed coordinates.now count a b ring }
+    ensures { result ≡ not (closed || same_z (row_d (points_in coordinates.now count) (across a b ring)) (pos 0)) }
 {
-    if edge.closed {
+    if closed {
         return false;
     }
-    let last = edge.ring.m as usize - 1;
-    let outer = rows::plain(edge.a, edge.b, edge.ring.v[0], edge.ring.v[last], 0);
-    let d = tally::row_volume(edge.coordinates, edge.count, outer);
+    let last = ring.m as usize - 1;
+    let outer = rows::plain(a, b, ring.v[0], ring.v[last], 0);
+    let d = tally::row_volume(coordinates, count, outer);
     d != 0
 }
 

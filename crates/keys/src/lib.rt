@@ -30,7 +30,7 @@ pub fn face_key(x: u8, y: u8, z: u8) -> u32
 const ROW_FACES: usize = 4;
 
 // The faces of the longest table: 60 rows of a block and one more while it is changed.
-const MOST_KEYS: usize = 244;
+pub const MOST_KEYS: usize = 244;
 
 // The keys of directed faces, one behind another: room for those of the longest table.
 #[derive(Drop)]

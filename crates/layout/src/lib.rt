@@ -106,7 +106,10 @@ pub fn copy(from: &[u8], to: &mut [u8])
     requires { length from.now ≤ length to.old }
     ensures { to.new ≡ from.now ++ drop (length from.now) to.old }
 {
-    to[..from.len()].copy_from_slice(from);
+    // Kept: a loop and no copy_from_slice, which calls memmove: libsumpnewt.a needs nothing but memcpy and memset (include/sumpnewt.h).
+    for (i, byte) in from.iter().enumerate() {
+        to[i] = *byte;
+    }
 }
 
 // The fields of a body.

@@ -1,7 +1,7 @@
 // Marked faces of the rows of a table: their keys, gathered, and by them whether both rows at a face agree.
 #![tactic(auto)]
 
-ghost use Rattle.std.specs.Prelude.{◌+◌, ◌*◌, ◌≤◌, false, not, ◌||◌, ◌++◌, ◌≡◌, length};
+ghost use Rattle.std.specs.Prelude.{◌+◌, ◌*◌, ◌<◌, ◌≤◌, false, cond, not, ◌||◌, [], ◌∷◌, ◌++◌, ◌≡◌, length};
 ghost use Rattle.lists.specs.Lists.{every, has};
 ghost use Rattle.rows.specs.Rows.{rows_at, row_size, rows_in};
 ghost use Rattle.rows.specs.Steps.{most_rows};
@@ -25,6 +25,17 @@ fn key_of(over: bool, x: u8, y: u8, z: u8) -> u32
     keys::face_key(x, y, z)
 }
 
+// The key of a face that is marked goes behind the others; of another none is made.
+fn store_face(keys: &mut Keys, mark: bool, over: bool, x: u8, y: u8, z: u8)
+    requires { length keys.old < most_keys }
+    ensures stored { keys.new ≡ keys.old ++ cond mark (key_of over (x, y, z) ∷ []) [] }
+    ensures one_more { length keys.new ≤ length keys.old + 1 }
+{
+    if mark {
+        keys.push(key_of(over, x, y, z));
+    }
+}
+
 // The keys of the faces that a row marks, turned over or not, go behind the others.
 pub fn store_marked(keys: &mut Keys, row: Row, over: bool)
     requires { length keys.old + 4 ≤ most_keys }
@@ -32,10 +43,10 @@ pub fn store_marked(keys: &mut Keys, row: Row, over: bool)
     ensures four_more { length keys.new ≤ length keys.old + 4 }
 {
     let marks = row.marks;
-    keys.push_if(marks.qrs, key_of(over, row.q, row.r, row.s));
-    keys.push_if(marks.psr, key_of(over, row.p, row.s, row.r));
-    keys.push_if(marks.pqs, key_of(over, row.p, row.q, row.s));
-    keys.push_if(marks.prq, key_of(over, row.p, row.r, row.q));
+    store_face(keys, marks.qrs, over, row.q, row.r, row.s);
+    store_face(keys, marks.psr, over, row.p, row.s, row.r);
+    store_face(keys, marks.pqs, over, row.p, row.q, row.s);
+    store_face(keys, marks.prq, over, row.p, row.r, row.q);
 }
 
 // The keys of all marked faces of the first n rows, in place of those that were there.

@@ -3,11 +3,9 @@ use Prim.Native.Nat.{ℕ, ◌≤◌, min, max}
 use mathlib.Core.Bool.{Bool, not}
 use mathlib.Core.List.{List}
 use mathlib.Core.Path.{◌≡◌, sym, ap, ap₂, ◌∙◌, subst}
-use mathlib.Core.Logic.{∥∥₁_elim}
 use native.Mathlib.Omega.{arith}
-use lib.Dec.{T, T_prop}
+use lib.Dec.{T}
 use lib.ListN.{length, length-append, length-map}
-use Rattle.std.proofs.Math.Nat.{ℕ_set}
 use Rattle.lists.specs.Lists.{every}
 use Rattle.lists.proofs.Lists.{those_e}
 use Rattle.volume.proofs.PointsInBytes.{points_length}
@@ -60,7 +58,7 @@ module _ (block : List ℕ) (e f : ℕ) {closed : Bool} {ring : Ring} {region : 
   own_rows = ap (λ (s : Site). (patch_after s).rows) own_site
 
   made_rows : length (table_after its (chosen its)) ≡ rows_after its
-  made_rows = ∥∥₁_elim given.ringed.sound (ℕ_set _ _) (λ sound. chosen_rows its sound given.ringed.ready.long given.way)
+  made_rows = chosen_rows its given.ringed.sound given.ringed.ready.long given.way
 
   few : length after ≤ max_rows
   unfolding patch_after table_after
@@ -107,7 +105,7 @@ module _ (block : List ℕ) (e f : ℕ) {closed : Bool} {ring : Ring} {region : 
   unfolding patch_after table_after
   after_keeps =
       subst T (sym (dress_keeps (new_mark its.removed its.kept) (length its.points) its.kept new))
-      (∥∥₁_elim given.ringed.sound (T_prop _) (λ sound. chosen_keeps its sound given.ringed.ready.long given.way))
+      (chosen_keeps its given.ringed.sound given.ringed.ready.long given.way)
 
   module _ (before : List ℕ) (place : body_bytes ≤ length before) (same : version before ≡ version block)
       {edge : RingedEdge} (is : IsEdgeOf block e f closed ring edge)

@@ -12,7 +12,7 @@ use Rattle.layout.specs.Layout.{block_bytes, fields_of}
 use Rattle.block.specs.Opening.{open_answer}
 use Rattle.ring.specs.Ring.{Site, site_of, or_chains, edge_tests, ring_with}
 use Rattle.ring.proofs.RingInAnyOrder.{site_ordered}
-use Rattle.calls.specs.Removing.{block_tests, removal_tests, remove_answer, remove_bytes, remove_gives, page_gives}
+use Rattle.calls.specs.Removing.{block_tests, removal_tests, remove_answer, remove_bytes, remove_gives, page_given}
 use Rattle.calls.proofs.CallTests.{block_left, blocked}
 use Rattle.attempt.specs.declared.Tried.{Tried}
 use Rattle.attempt.specs.Steps.{attempt_answer, Attempts}
@@ -38,9 +38,8 @@ module _ (block out : List ℕ) (e f : ℕ) where
     unfolding remove_gives
     refusal_gives = sym (refused_same (remove_answer block out e f) tt _ refused)
 
-    pub refusal_pages : Err refusal ≡ page_gives block out e f
-    unfolding page_gives
-    refusal_pages = sym (refused_same (remove_answer block out e f) tt _ refused)
+    pub refusal_pages : Err refusal ≡ page_given (remove_gives block out e f)
+    refusal_pages = ap page_given refusal_gives
 
     pub refusal_keeps : out ≡ remove_bytes block out e f
     unfolding remove_bytes
@@ -74,6 +73,5 @@ module _ (block out : List ℕ) (e f : ℕ) where
         unfolding remove_gives
         done_gives = rw (done_answer, own_ring, replaces.page)
 
-        pub done_pages : Ok after.page ≡ page_gives block out e f
-        unfolding page_gives
-        done_pages = rw (done_answer, replaces.page)
+        pub done_pages : Ok after.page ≡ page_given (remove_gives block out e f)
+        done_pages = ap page_given done_gives

@@ -5,7 +5,7 @@ ghost use Rattle.std.specs.Prelude.{◌≡◌, length, replicate};
 ghost use Rattle.layout.specs.Layout.{block_bytes};
 ghost use Rattle.block.specs.Opening.{open_answer};
 ghost use Rattle.output.specs.Steps.{begun};
-ghost use Rattle.calls.specs.Removing.{remove_gives, remove_bytes, page_gives};
+ghost use Rattle.calls.specs.Removing.{remove_gives, remove_bytes, page_given};
 ghost use Rattle.replacement.specs.Steps.{Replaceable};
 ghost use Rattle.outcome.specs.Steps.{Replaces};
 
@@ -53,7 +53,7 @@ pub fn remove(block: &[u8], e: usize, f: usize, out: &mut [u8]) -> Result<Remove
 
 // The page row of that removal, or its refusal; nothing is written.
 pub fn page(block: &[u8], e: usize, f: usize) -> Result<PageRow, Refusal>
-    ensures { result ≡ page_gives block.now (replicate block_bytes 0) e f }
+    ensures { result ≡ page_given (remove_gives block.now (replicate block_bytes 0) e f) }
 {
     block::opening(block)?;
     let tried = attempt(block, e, f)?;

@@ -27,7 +27,7 @@ use Rattle.output.specs.Output.{staying}
 use Rattle.output.proofs.RowsThatStay.{edge_staying, edge_going, face_staying}
 use Rattle.calls.specs.Removing.{rows_made, patch_after}
 use Rattle.kept_marks.proofs.NewRowsPlain.{new_plain}
-use Rattle.edge.specs.Steps.{Ringed}
+use Rattle.edge.specs.Steps.{RingedFact}
 use Rattle.edge.specs.declared.RingedEdge.{RingedEdge}
 use Rattle.edge.specs.Edges.{site_of_edge}
 use Rattle.replacement.specs.Steps.{Carriable}
@@ -37,7 +37,7 @@ module _ (edge : RingedEdge) {region : ℕ} {apexes rows : List ℕ}
   abbrev its : Site
   its = site_of_edge edge
 
-  given : Ringed edge.coordinates.now edge.count edge.table.now edge.n edge.a edge.b edge.closed edge.ring
+  given : RingedFact edge.coordinates.now edge.count edge.table.now edge.n edge.a edge.b edge.closed edge.ring
   given = edge.ringed
 
   least : min edge.a edge.b ≡ edge.a

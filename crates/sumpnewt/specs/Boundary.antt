@@ -3,7 +3,7 @@ use Rattle.std.specs.Prelude.{ℕ, List, Float, length, replicate}
 use Rattle.layout.specs.Layout.{block_bytes}
 use Rattle.block.specs.Opening.{open_answer}
 use Rattle.calls.specs.Summarising.{summary_gives}
-use Rattle.calls.specs.Removing.{remove_answer, page_gives}
+use Rattle.calls.specs.Removing.{remove_answer, remove_gives, page_given}
 use Rattle.elements.specs.Elements.{sized, fitting, summary_elements, summary_over, page_elements, page_over}
 
 -- ---- the summary: upright, flat, inverted, has_worst, worst, has_octave, octave
@@ -24,4 +24,4 @@ page_answer block row e f = sized page_elements (length row) (remove_answer bloc
 
 -- each element of the row afterwards: there is a page row only with answer 0 of a removal
 unfoldable pub page_out : List ℕ → List Float → ℕ → ℕ → List Float
-page_out block row e f = fitting page_elements (page_over row (page_gives block (replicate block_bytes 0) e f)) row
+page_out block row e f = fitting page_elements (page_over row (page_given (remove_gives block (replicate block_bytes 0) e f))) row

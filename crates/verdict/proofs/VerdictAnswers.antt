@@ -35,7 +35,7 @@ use Rattle.ring.specs.Ring.{Site, site_of, m, max_ring, not_flat}
 use Rattle.triangulation.specs.Triangulation.{rows_after}
 use Rattle.replacement.specs.declared.Way.{Way}
 use Rattle.calls.specs.Removing.{worst_now, mark_lost, no_room, no_way, none_better, replacement_tests}
-use Rattle.edge.specs.Steps.{Ringed}
+use Rattle.edge.specs.Steps.{RingedFact}
 use Rattle.edge.specs.declared.RingedEdge.{RingedEdge}
 use Rattle.edge.specs.Edges.{site_of_edge}
 use Rattle.verdict.specs.Steps.{plan_answer, Plans}
@@ -47,7 +47,7 @@ module _ (edge : RingedEdge) where
   abbrev its : Site
   its = site_of_edge edge
 
-  given : Ringed edge.coordinates.now edge.count edge.table.now edge.n edge.a edge.b edge.closed edge.ring
+  given : RingedFact edge.coordinates.now edge.count edge.table.now edge.n edge.a edge.b edge.closed edge.ring
   given = edge.ringed
 
   three : 3 ≤ m its

@@ -39,7 +39,14 @@ pub fn decide(edge: &RingedEdge, regions: Regions) -> Result<Plan, Refusal>
     requires { regions ≡ regions_of (site_of_edge edge.now).removed }
     ensures { Plans (site_of_edge edge.now) result }
 {
-    if not_flat(edge) {
+    if not_flat(
+        edge.coordinates,
+        edge.count,
+        edge.a,
+        edge.b,
+        edge.closed,
+        edge.ring,
+    ) {
         return Err(Refusal::NOT_FLAT);
     }
     let Regions::One(region) = regions else {

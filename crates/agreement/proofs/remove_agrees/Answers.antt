@@ -1,7 +1,8 @@
 -- The answer with the page row, the ring, then every byte.
 use mathlib.Core.Path.{◌≡◌}
 use Rattle.std.proofs.Common.{arith, rules}
-use Rattle.agreement.specs.Agreement.{page_given, ring_given, remove_agrees}
+use Rattle.calls.specs.Removing.{page_given}
+use Rattle.agreement.specs.Agreement.{ring_given, remove_agrees}
 use Rattle.agreement.proofs.remove_agrees.Goals as goal
 
 pub returns-then-ring_is : goal.returns-then-ring_is

@@ -2,7 +2,7 @@
 use mathlib.Core.Path.{sym, refl, ◌∙◌}
 use Rattle.std.proofs.lemmas.Result.{err_from_is_err_and}
 use Rattle.ring.specs.Ring.{or_chains}
-use Rattle.edge.proofs.EdgeRinged.{ends_bytes, ringed}
+use Rattle.edge.proofs.EdgeRinged.{ends_bytes, ringed, fact_of}
 use Rattle.attempt.proofs.Attempted.{edge_refuses, regions_are, plan_refuses, tried_is}
 use Rattle.attempt.proofs.attempt.Goals as goal
 
@@ -18,7 +18,7 @@ in_block-edge-requires c =
     record {
       opens = c.requires;
       ends = ends_bytes or_chains args.block.now args.e args.f c.requires _ i;
-      ringed = ringed or_chains args.block.now args.e args.f c.requires _ i _ _ refl refl;
+      ringed = fact_of (ringed or_chains args.block.now args.e args.f c.requires _ i _ _ refl refl);
     }
 
 pub decide-requires : goal.decide-requires

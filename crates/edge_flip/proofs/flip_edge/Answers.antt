@@ -8,7 +8,7 @@ use Rattle.ring.specs.Ring.{rings_alone}
 use Rattle.cells.specs.Steps.{cells}
 use Rattle.layout.proofs.BytesOfSlices.{all_bytes}
 use Rattle.output.proofs.BlockAfterwards.{begun_version, begun_length}
-use Rattle.edge.proofs.EdgeRinged.{ends_bytes, ringed}
+use Rattle.edge.proofs.EdgeRinged.{ends_bytes, ringed, fact_of}
 use Rattle.edge_flip.proofs.FlippedEdges.{edge_refuses, not_three, several_regions, one_region, mark_lost_lem, marks_stay, no_way_lem, carriable, room_for, done_answer, done_bytes}
 use Rattle.edge_flip.proofs.flip_edge.Goals as goal
 
@@ -41,7 +41,7 @@ in_block-edge-requires c =
     record {
       opens = c.requires.0;
       ends = ends_bytes rings_alone args.block.now args.e args.f c.requires.0 _ i;
-      ringed = ringed rings_alone args.block.now args.e args.f c.requires.0 _ i _ _ refl refl;
+      ringed = fact_of (ringed rings_alone args.block.now args.e args.f c.requires.0 _ i _ _ refl refl);
     }
 
 pub returns-then-mark_goes : goal.returns-then-mark_goes

@@ -29,6 +29,6 @@ returns-in_default c =
 pub returns-in_default-2 : goal.returns-in_default-2
 returns-in_default-2 c =
     let a = c.args in
-    let (right, size) = opened a.block.now a.out.now (sym c.blocks_answer.ensures ∙ c.in_ok-blocks_answer.was) in
-    let both = flip_21 a.block.now a.out.now a.numbers.now right size (λ two. omega arith) (λ three. omega arith) in
+    let (opens, size) = opened a.block.now a.out.now (sym c.blocks_answer.ensures ∙ c.in_ok-blocks_answer.was) in
+    let both = flip_21 a.block.now a.out.now a.numbers.now opens size (λ two. omega arith) (λ three. omega arith) in
     record { answer = both.0; bytes = both.1 }

@@ -5,13 +5,9 @@ use Rattle.marking.proofs.store_marked.Goals as goal
 pub returns-clause-stored : goal.returns-clause-stored
 returns-clause-stored c =
     rw (
-      c.push_if-4.ensures.pushed,
-      c.push_if-3.ensures.pushed,
-      c.push_if-2.ensures.pushed,
-      c.push_if.ensures.pushed,
-      c.key_of-4.ensures,
-      c.key_of-3.ensures,
-      c.key_of-2.ensures,
-      c.key_of.ensures,
+      c.store_face-4.ensures.stored,
+      c.store_face-3.ensures.stored,
+      c.store_face-2.ensures.stored,
+      c.store_face.ensures.stored,
     )
     (keys_four c.args.over c.args.row c.args.keys.now)

@@ -1,11 +1,12 @@
 -- The chosen triangulation is carried out, and the page row is of the rows before and after.
+use Rattle.edge.proofs.EdgeRinged.{fact_of}
 use Rattle.outcome.proofs.RowsAfterwards.{carriable, measured, replaced}
 use Rattle.outcome.proofs.replace.Goals as goal
 
 pub in_block-edge-requires : goal.in_block-edge-requires
 in_block-edge-requires c =
     let (opens, given) = c.requires.block_value in
-    record { opens = opens; ends = given.ends; ringed = given.ringed }
+    record { opens = opens; ends = given.ends; ringed = fact_of given.ringed }
 
 pub carry_out-n-requires : goal.carry_out-n-requires
 carry_out-n-requires c =
