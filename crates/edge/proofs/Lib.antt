@@ -1,2 +1,3 @@
 pub mod EdgeAnswers
 pub mod EdgeRinged
+pub mod RingsKept
